@@ -1,0 +1,10 @@
+pub mod Budget
+pub mod Mask
+pub mod Parity
+pub mod Perm
+pub mod Product
+pub mod Search
+pub mod Selection
+pub mod Simulation
+pub mod Steps
+pub mod Tests

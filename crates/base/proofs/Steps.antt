@@ -1,0 +1,77 @@
+-- What one turn of a loop that goes up a list does to what is left of the list. Assumes nothing.
+use mathlib.Core.Path.{_≡_, sym, ap, ap₂, _∙_}
+use mathlib.Core.Bool.{Bool, true, false, _&&_}
+use mathlib.Core.List.{List, _∷_}
+use Prim.Native.Nat.{ℕ, suc, _+_, _-_, _*_, _≤_, _<_}
+use native.Mathlib.Decide.{le-ind}
+use native.Mathlib.Nat.{le-refl, le-trans, suc-mul, add-mul, mul-assoc, le-mul-of-pos-right}
+use native.Mathlib.Numerals.{add-one}
+use native.Mathlib.Omega.{arith}
+use lib.Dec.{ltb}
+use lib.ListN.{length, getD, drop, drop-of-length-le, length-drop}
+use lib.Seq.{drop-cons}
+use borrow.Author.Tests.{lt-ltb, le-ltb}
+use Rattle.base.specs.Lists.{inRange}
+use Rattle.base.specs.Perm.{below, fact, number}
+use Rattle.base.proofs.Perm.{less-is, fact-pos, number-lt}
+
+pub next : (s : List ℕ) (i : ℕ) → i < length s → drop i s ≡ getD s i 0 ∷ drop (i + 1) s
+next s i h = drop-cons s i 0 h ∙ ap (λ (k : ℕ). getD s i 0 ∷ drop k s) (sym (add-one i))
+
+-- inRange
+module _ (n : ℕ) (s : List ℕ) (i : ℕ) where
+  range-at : (b : Bool) → i < length s → ltb (getD s i 0) n ≡ b → inRange n (drop i s) ≡ b && inRange n (drop (i + 1) s)
+  range-at b h e = ap (inRange n) (next s i h) ∙ ap (λ (t : Bool). t && inRange n (drop (i + 1) s)) e
+
+  pub range-step : i < length s → getD s i 0 < n → inRange n (drop (i + 1) s) ≡ inRange n (drop i s)
+  range-step h l = sym (range-at true h (lt-ltb _ _ l))
+
+  pub range-stop : i < length s → n ≤ getD s i 0 → false ≡ inRange n (drop i s)
+  range-stop h l = sym (range-at false h (le-ltb _ _ l))
+
+  pub range-end : length s ≤ i → true ≡ inRange n (drop i s)
+  range-end h = sym (ap (inRange n) (drop-of-length-le s h))
+
+-- below
+module _ (x : ℕ) (s : List ℕ) (j : ℕ) where
+  pub below-yes : j < length s → getD s j 0 < x → below x (drop j s) ≡ 1 + below x (drop (j + 1) s)
+  below-yes h l = omega (arith, ap (below x) (next s j h), less-is (getD s j 0) x)
+
+  pub below-no : j < length s → x ≤ getD s j 0 → below x (drop j s) ≡ below x (drop (j + 1) s)
+  below-no h l = omega (arith, ap (below x) (next s j h), less-is (getD s j 0) x)
+
+  pub below-end : length s ≤ j → below x (drop j s) ≡ 0
+  below-end h = ap (below x) (drop-of-length-le s h)
+
+-- number
+fact-step : (n : ℕ) → fact n ≤ fact (suc n)
+fact-step n = omega (arith, suc-mul n (fact n))
+
+fact-mono : {m n : ℕ} → m ≤ n → fact m ≤ fact n
+fact-mono {m} {n} h = le-ind (λ (k : ℕ). fact m ≤ fact k) (le-refl (fact m)) (λ k l r. le-trans r (fact-step k)) n h
+
+module _ (s : List ℕ) (i index : ℕ) (h : i < length s) (inv : index * fact (length s - i) + number (drop i s) ≡ number s) where
+  pub number-step : (index * (length s - i) + below (getD s i 0) (drop (i + 1) s)) * fact (length s - (i + 1)) + number (drop (i + 1) s) ≡ number s
+  number-step =
+      let m = length s - (i + 1) in
+      let b = below (getD s i 0) (drop (i + 1) s) in
+      let t = drop (i + 1) s in
+      let l : length s - i ≡ suc m = omega arith in
+      let d : number (drop i s) ≡ b * fact m + number t =
+      ap number (next s i h) ∙ ap (λ (k : ℕ). b * fact k + number t) (length-drop (i + 1) s) in
+      let e : index * (suc m * fact m) + (b * fact m + number t) ≡ number s = ap₂ (λ (k r : ℕ). index * fact k + r) (sym l) (sym d) ∙ inv in
+      let f : (index * suc m + b) * fact m ≡ index * (suc m * fact m) + b * fact m =
+      add-mul (index * suc m) b (fact m) ∙ ap (λ (k : ℕ). k + b * fact m) (mul-assoc index (suc m) (fact m)) in
+      ap (λ (k : ℕ). (index * k + b) * fact m + number t) l ∙ omega arith
+
+  pub number-fits : length s ≤ 12 → index * (length s - i) + below (getD s i 0) (drop (i + 1) s) < 479001600
+  number-fits k =
+      let x = index * (length s - i) + below (getD s i 0) (drop (i + 1) s) in
+      let top : fact (length s) ≤ 479001600 = fact-mono k in
+      omega (arith, number-step, number-lt s, le-mul-of-pos-right x (fact-pos (length s - (i + 1))))
+
+pub number-end : (s : List ℕ) (i index : ℕ) → i ≤ length s → length s ≤ i → index * fact (length s - i) + number (drop i s) ≡ number s → index ≡ number s
+number-end s i index h k inv =
+    let z : length s - i ≡ 0 = omega arith in
+    let e : index * 1 + 0 ≡ number s = ap₂ (λ (n r : ℕ). index * fact n + r) (sym z) (sym (ap number (drop-of-length-le s k))) ∙ inv in
+    omega arith

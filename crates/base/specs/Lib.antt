@@ -1,0 +1,6 @@
+pub mod Lists
+pub mod Parity
+pub mod Perm
+pub mod Product
+pub mod Search
+pub mod Simulation

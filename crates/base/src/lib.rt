@@ -1,0 +1,1 @@
+// No code: the mathematics that the crates above share. Definitions stand in specs/, laws in proofs/.
