@@ -198,6 +198,14 @@ getD-range (x ∷ xs) = ap (_∷_ x) (later 0 (length xs) ∙ getD-range xs)
     later i zero = refl
     later i (suc n) = ap (_∷_ (getD xs i 0)) (later (suc i) n)
 
+-- a sum over the places that a permutation names is the sum over all places
+pub total-places : (g : ℕ → ℕ) (t : List ℕ) {n : ℕ} {q : List ℕ} → Perm n q → length t ≡ n → total (λ i. g (getD t i 0)) q ≡ total g t
+total-places g t {n} {q} h l =
+    total-all (λ i. g (getD t i 0)) n q (h .size) (perm-fills h)
+    ∙ sym (total-all (λ i. g (getD t i 0)) n (range 0 n) (length-range 0 n) (range-fills 0 n))
+    ∙ sym (total-map g (λ i. getD t i 0) (range 0 n))
+    ∙ ap (total g) (ap (λ (k : ℕ). map (λ i. getD t i 0) (range 0 k)) (sym l) ∙ getD-range t)
+
 -- ---- the product
 
 -- Where P takes the pair a, b to values that differ, its two values are in the wrong order exactly where either the pair is or P turns the pair round,

@@ -1,22 +1,66 @@
 -- What one turn of a loop that goes up a list does to what is left of the list. Assumes nothing.
-use mathlib.Core.Path.{_≡_, sym, ap, ap₂, _∙_}
+use mathlib.Core.Path.{_≡_, refl, sym, ap, ap₂, _∙_}
 use mathlib.Core.Bool.{Bool, true, false, _&&_}
-use mathlib.Core.List.{List, _∷_}
+use mathlib.Core.List.{List, [], _∷_, _++_}
 use Prim.Native.Nat.{ℕ, suc, _+_, _-_, _*_, _≤_, _<_}
 use native.Mathlib.Decide.{le-ind}
 use native.Mathlib.Nat.{le-refl, le-trans, suc-mul, add-mul, mul-assoc, le-mul-of-pos-right}
 use native.Mathlib.Numerals.{add-one}
 use native.Mathlib.Omega.{arith}
-use lib.Dec.{ltb}
-use lib.ListN.{length, getD, drop, drop-of-length-le, length-drop}
-use lib.Seq.{drop-cons}
-use borrow.Author.Tests.{lt-ltb, le-ltb}
-use Rattle.base.specs.Lists.{inRange}
+use lib.Dec.{ltb, eqb}
+use lib.ListN.{length, getD, take, drop, set, drop-of-length-le, length-drop}
+use lib.Seq.{drop-cons, take-all, take-suc, take-suc-set}
+use borrow.Author.Tests.{lt-ltb, le-ltb, eq-eqb, ne-eqb}
+use Rattle.base.specs.Lists.{inRange, sameList, total}
 use Rattle.base.specs.Perm.{below, fact, number}
 use Rattle.base.proofs.Perm.{less-is, fact-pos, number-lt}
 
 pub next : (s : List ℕ) (i : ℕ) → i < length s → drop i s ≡ getD s i 0 ∷ drop (i + 1) s
 next s i h = drop-cons s i 0 h ∙ ap (λ (k : ℕ). getD s i 0 ∷ drop k s) (sym (add-one i))
+
+-- a loop that writes a list from its front: what is written is the front of what it is to be
+module _ (out goal : List ℕ) (i : ℕ) (l : length goal ≡ length out) (e : take i out ≡ take i goal) where
+  pub written-more : (v : ℕ) → i < length out → v ≡ getD goal i 0 → take (i + 1) (set out i v) ≡ take (i + 1) goal
+  written-more v h w =
+      ap (λ (k : ℕ). take k (set out i v)) (add-one i)
+      ∙ take-suc-set out i v h
+      ∙ ap₂ (λ (f : List ℕ) (x : ℕ). f ++ (x ∷ [])) e w
+      ∙ sym (take-suc goal i 0 (omega arith))
+      ∙ ap (λ (k : ℕ). take k goal) (sym (add-one i))
+
+  pub written-all : length out ≤ i → out ≡ goal
+  written-all h = sym (take-all i out h) ∙ e ∙ take-all i goal (omega arith)
+
+-- total
+pub total-step : (g : ℕ → ℕ) (s : List ℕ) (i : ℕ) → i < length s → total g (drop i s) ≡ g (getD s i 0) + total g (drop (i + 1) s)
+total-step g s i h = ap (total g) (next s i h)
+
+-- sameList
+pub same-sizes : (a b : List ℕ) → (length a ≡ length b → ⊥) → false ≡ sameList a b
+unfolding sameList
+same-sizes [] [] h = absurd (h refl)
+same-sizes [] (y ∷ b) h = refl
+same-sizes (x ∷ a) [] h = refl
+same-sizes (x ∷ a) (y ∷ b) h = go (eqb x y) (same-sizes a b (λ e. h (ap suc e)))
+  where
+    go : (t : Bool) → false ≡ sameList a b → false ≡ t && sameList a b
+    go true e = e
+    go false e = refl
+
+module _ (a b : List ℕ) (i : ℕ) where
+  same-at : (t : Bool) → i < length a → i < length b → eqb (getD a i 0) (getD b i 0) ≡ t → sameList (drop i a) (drop i b) ≡ t && sameList (drop (i + 1) a) (drop (i + 1) b)
+  unfolding sameList
+  same-at t h k e = ap₂ sameList (next a i h) (next b i k) ∙ ap (λ (u : Bool). u && sameList (drop (i + 1) a) (drop (i + 1) b)) e
+
+  pub same-step : i < length a → i < length b → getD a i 0 ≡ getD b i 0 → sameList (drop (i + 1) a) (drop (i + 1) b) ≡ sameList (drop i a) (drop i b)
+  same-step h k e = sym (same-at true h k (eq-eqb _ _ e))
+
+  pub same-stop : i < length a → i < length b → (getD a i 0 ≡ getD b i 0 → ⊥) → false ≡ sameList (drop i a) (drop i b)
+  same-stop h k n = sym (same-at false h k (ne-eqb _ _ n))
+
+  pub same-end : length a ≤ i → length b ≤ i → true ≡ sameList (drop i a) (drop i b)
+  unfolding sameList
+  same-end h k = sym (ap₂ sameList (drop-of-length-le a h) (drop-of-length-le b k))
 
 -- inRange
 module _ (n : ℕ) (s : List ℕ) (i : ℕ) where

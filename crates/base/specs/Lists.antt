@@ -55,3 +55,8 @@ sameList (x ∷ xs) (y ∷ ys) = eqb x y && sameList xs ys
 abbrev pub total : (ℕ → ℕ) → List ℕ → ℕ
 total g [] = 0
 total g (x ∷ xs) = g x + total g xs
+
+-- f taken n times
+abbrev pub times : {A : Type 0} → ℕ → (A → A) → A → A
+times zero f x = x
+times (suc n) f x = f (times n f x)

@@ -1,0 +1,45 @@
+-- `cubie::CubieCube::apply_move` meets its contract. Assumes nothing.
+use mathlib.Core.Path.{_≡_, sym, ap₂, _∙_}
+use Rattle.cubie.specs.Answers.{firstOf}
+use Rattle.cubie.specs.Cube.{refusalOf}
+use Rattle.cubie.specs.Moves.{moveRefusal}
+use Rattle.cubie.proofs.Answers.{cubed-refused, cubed-good, first-none, move-none}
+use borrow.Author.Needs.{needs}
+use Rattle.cubie.proofs.CubieCube.apply_move.Statement.{statement}
+use Rattle.cubie.proofs.CubieCube.apply_move.Tie as tie
+
+refusal-requires : tie.Need-refusal-requires
+refusal-requires c κs = search needs
+
+move-refusal-requires : tie.Need-move-refusal-requires
+move-refusal-requires c κs = search needs
+
+first-requires : tie.Need-first-requires
+first-requires c κs = search needs
+
+cube-refused-requires : tie.Need-cube-refused-requires
+cube-refused-requires c κs = search needs
+
+returns : tie.Need-returns
+returns c = c .cube-refused .ensures ∙ cubed-refused _ _ (c .before .before .first .ensures ∙ ap₂ firstOf (c .before .before .before .before .refusal .ensures) (c .before .before .before .move-refusal .ensures)) (c .before .if1 .taken) _
+
+apply-move-requires : tie.Need-apply-move-requires
+apply-move-requires c κs =
+    let e : firstOf (refusalOf (c .before .before .before .before .args .self)) (moveRefusal (c .before .before .before .before .args .m)) ≡ 0 = sym (c .before .first .ensures ∙ ap₂ firstOf (c .before .before .before .refusal .ensures) (c .before .before .move-refusal .ensures)) ∙ c .if1 .left in
+    let n = first-none _ _ e in
+    (n .0, move-none (c .before .before .before .before .args .m) (n .1))
+
+returns-2 : tie.Need-returns-2
+returns-2 c = cubed-good _ _ (c .before .before .first .ensures ∙ ap₂ firstOf (c .before .before .before .before .refusal .ensures) (c .before .before .before .move-refusal .ensures)) (c .before .if1 .left) _ _ (c .apply-move .ensures)
+
+pub apply-move-spec : {M : Type 1} → statement M
+apply-move-spec =
+    tie.close
+    (tie.spec
+    refusal-requires
+    move-refusal-requires
+    first-requires
+    cube-refused-requires
+    returns
+    apply-move-requires
+    returns-2)

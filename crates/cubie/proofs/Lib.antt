@@ -1,0 +1,5 @@
+pub mod Answers
+pub mod Product
+pub mod Range
+pub mod Solvable
+pub mod Turns

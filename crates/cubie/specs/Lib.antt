@@ -1,0 +1,4 @@
+pub mod Answers
+pub mod Cube
+pub mod Moves
+pub mod Solvable

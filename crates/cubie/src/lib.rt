@@ -1,0 +1,194 @@
+// The cube on the cubie level: kewb's src/cube/cubie.rs. The moves of src/cube/moves.rs stand in `moves`.
+ghost use mathlib.Core.Path.{_≡_};
+ghost use Rattle.cubie.specs.Answers.{told, counted, cubed, lowestOf, firstOf, refusalWith};
+ghost use Rattle.cubie.specs.Cube.{refusalOf, product, turn, applyMoves, isHome};
+ghost use Rattle.cubie.specs.Moves.{moveRefusal, movesRefusal};
+ghost use Rattle.cubie.specs.Solvable.{cornerTwist, edgeTwist, cornerPerm, edgePerm, solvable};
+
+pub mod inner;
+pub mod moves;
+
+// Which corner and which edge stands at each place, and how each is twisted or flipped.
+pub struct CubieCube {
+    pub cp: [u8; 8],
+    pub co: [u8; 8],
+    pub ep: [u8; 12],
+    pub eo: [u8; 12],
+}
+
+pub const SOLVED_CUBIE_CUBE: CubieCube = CubieCube {
+    cp: [0, 1, 2, 3, 4, 5, 6, 7],
+    co: [0, 0, 0, 0, 0, 0, 0, 0],
+    ep: [0, 1, 2, 3, 4, 5, 6, 7, 8, 9, 10, 11],
+    eo: [0, 0, 0, 0, 0, 0, 0, 0, 0, 0, 0, 0],
+};
+
+// Yes, no, or a refusal by its number.
+pub enum Answer {
+    Yes,
+    No,
+    Refused(u8),
+}
+
+// A count or a move's number, or a refusal.
+pub enum Number {
+    Is(u8),
+    Refused(u8),
+}
+
+pub enum Verdict {
+    Good,
+    Refused(u8),
+}
+
+// A cube, or a refusal with the solved cube beside it.
+pub struct CubeAnswer {
+    pub verdict: Verdict,
+    pub cube: CubieCube,
+}
+
+// The lowest of two refusals, where 0 is none.
+fn lowest(m: u8, n: u8) -> u8
+    ensures { λ r. ⌜ r ≡ lowestOf m n ⌝ }
+{
+    if m == 0 {
+        return n;
+    }
+    if n == 0 {
+        return m;
+    }
+    if m < n { m } else { n }
+}
+
+// The first of two refusals that is one, where 0 is none.
+fn first(m: u8, n: u8) -> u8
+    ensures { λ r. ⌜ r ≡ firstOf m n ⌝ }
+{
+    if m == 0 { n } else { m }
+}
+
+fn tell(refusal: u8, yes: bool) -> Answer
+    ensures { λ r. ⌜ r ≡ told refusal yes ⌝ }
+{
+    if refusal != 0 {
+        return Answer::Refused(refusal);
+    }
+    if yes { Answer::Yes } else { Answer::No }
+}
+
+fn cube_refused(refusal: u8) -> CubeAnswer
+    ensures { λ r. ⌜ r ≡ refusalWith refusal ⌝ }
+{
+    CubeAnswer {
+        verdict: Verdict::Refused(refusal),
+        cube: SOLVED_CUBIE_CUBE,
+    }
+}
+
+impl CubieCube {
+    // The product, as `Mul` has it: the pieces of `self` at the places that `rhs` names.
+    pub fn mul(self, rhs: CubieCube) -> CubeAnswer
+        ensures { λ r. ⌜ r ≡ cubed (lowestOf (refusalOf self) (refusalOf rhs)) (product self rhs) ⌝ }
+    {
+        let refusal = lowest(inner::refusal(self), inner::refusal(rhs));
+        if refusal != 0 {
+            return cube_refused(refusal);
+        }
+        CubeAnswer {
+            verdict: Verdict::Good,
+            cube: inner::mul(self, rhs),
+        }
+    }
+
+    pub fn apply_move(self, m: u8) -> CubeAnswer
+        ensures { λ r. ⌜ r ≡ cubed (firstOf (refusalOf self) (moveRefusal m)) (turn self m) ⌝ }
+    {
+        let refusal = first(inner::refusal(self), inner::move_refusal(m));
+        if refusal != 0 {
+            return cube_refused(refusal);
+        }
+        CubeAnswer {
+            verdict: Verdict::Good,
+            cube: inner::apply_move(self, m),
+        }
+    }
+
+    // The moves of a lent list, one after the other.
+    pub fn apply_moves(self, moves: &[u8]) -> CubeAnswer
+        ensures { λ r. ⌜ r ≡ cubed (firstOf (refusalOf self) (movesRefusal (now (moves .entry)))) (applyMoves self (now (moves .entry))) ⌝ }
+    {
+        let refusal = inner::refusal(self);
+        if refusal != 0 {
+            return cube_refused(refusal);
+        }
+        if !inner::in_range(moves, 18) {
+            return cube_refused(7);
+        }
+        CubeAnswer {
+            verdict: Verdict::Good,
+            cube: inner::apply_moves(self, moves),
+        }
+    }
+
+    // Whether each piece is at its place, and none turned.
+    pub fn is_solved(self) -> Answer
+        ensures { λ r. ⌜ r ≡ told (refusalOf self) (isHome self) ⌝ }
+    {
+        tell(inner::refusal(self), inner::is_solved(self))
+    }
+
+    // The twists that the corners still need.
+    pub fn count_corner_twist(self) -> Number
+        ensures { λ r. ⌜ r ≡ counted (refusalOf self) (cornerTwist self) ⌝ }
+    {
+        let refusal = inner::refusal(self);
+        if refusal != 0 {
+            return Number::Refused(refusal);
+        }
+        Number::Is(inner::count_corner_twist(self))
+    }
+
+    // The flips that the edges still need.
+    pub fn count_edge_twist(self) -> Number
+        ensures { λ r. ⌜ r ≡ counted (refusalOf self) (edgeTwist self) ⌝ }
+    {
+        let refusal = inner::refusal(self);
+        if refusal != 0 {
+            return Number::Refused(refusal);
+        }
+        Number::Is(inner::count_edge_twist(self))
+    }
+
+    // The swaps that sort the corners.
+    pub fn count_corner_perm(self) -> Number
+        ensures { λ r. ⌜ r ≡ counted (refusalOf self) (cornerPerm self) ⌝ }
+    {
+        let refusal = inner::refusal(self);
+        if refusal != 0 {
+            return Number::Refused(refusal);
+        }
+        Number::Is(inner::count_corner_perm(self))
+    }
+
+    // The swaps that sort the edges.
+    pub fn count_edge_perm(self) -> Number
+        ensures { λ r. ⌜ r ≡ counted (refusalOf self) (edgePerm self) ⌝ }
+    {
+        let refusal = inner::refusal(self);
+        if refusal != 0 {
+            return Number::Refused(refusal);
+        }
+        Number::Is(inner::count_edge_perm(self))
+    }
+
+    // No piece twice, equal parity, twists 0 modulo 3, flips 0 modulo 2.
+    pub fn is_solvable(self) -> Answer
+        ensures { λ r. ⌜ r ≡ told (refusalOf self) (solvable self) ⌝ }
+    {
+        let refusal = inner::refusal(self);
+        if refusal != 0 {
+            return Answer::Refused(refusal);
+        }
+        tell(refusal, inner::is_solvable(self))
+    }
+}
