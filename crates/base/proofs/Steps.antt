@@ -1,7 +1,7 @@
 -- What one turn of a loop that goes up a list does to what is left of the list. Assumes nothing.
 use mathlib.Core.Path.{_≡_, refl, sym, ap, ap₂, _∙_}
 use mathlib.Core.Bool.{Bool, true, false, _&&_}
-use mathlib.Core.List.{List, [], _∷_, _++_}
+use mathlib.Core.List.{List, [], _∷_, _++_, append-nil}
 use Prim.Native.Nat.{ℕ, suc, _+_, _-_, _*_, _≤_, _<_}
 use native.Mathlib.Decide.{le-ind}
 use native.Mathlib.Nat.{le-refl, le-trans, suc-mul, add-mul, mul-assoc, le-mul-of-pos-right}
@@ -9,7 +9,7 @@ use native.Mathlib.Numerals.{add-one}
 use native.Mathlib.Omega.{arith}
 use lib.Dec.{ltb, eqb}
 use lib.ListN.{length, getD, take, drop, set, drop-of-length-le, length-drop}
-use lib.Seq.{drop-cons, take-all, take-suc, take-suc-set}
+use lib.Seq.{drop-cons, drop-drop, drop-append-add, take-all, take-at, take-length, take-suc, take-suc-set, paste}
 use borrow.Author.Tests.{lt-ltb, le-ltb, eq-eqb, ne-eqb}
 use Rattle.base.specs.Lists.{inRange, sameList, total}
 use Rattle.base.specs.Perm.{below, fact, number}
@@ -30,6 +30,18 @@ module _ (out goal : List ℕ) (i : ℕ) (l : length goal ≡ length out) (e : t
 
   pub written-all : length out ≤ i → out ≡ goal
   written-all h = sym (take-all i out h) ∙ e ∙ take-all i goal (omega arith)
+
+-- pasted over all of it, and pasted behind what was pasted before
+pub paste-whole : (d s : List ℕ) → length s ≡ length d → paste d 0 s (length s) ≡ s
+paste-whole d s l =
+    ap₂ (λ (a b : List ℕ). a ++ b) (take-length s) (drop-of-length-le d {i = 0 + length s} (omega arith)) ∙ append-nil s
+
+pub paste-next : (front d s e : List ℕ) (at k : ℕ) → length front ≡ at → at + length s ≡ k → e ≡ front ++ drop at d → paste e at s (length s) ≡ (front ++ s) ++ drop k d
+paste-next front d s e at k l m h =
+    ap (λ (t : List ℕ). paste t at s (length s)) h
+    ∙ ap₂ (λ (a b : List ℕ). (a ++ take (length s) s) ++ b) (take-at front (drop at d) at l)
+    (ap (λ (n : ℕ). drop (n + length s) (front ++ drop at d)) (sym l) ∙ drop-append-add front (drop at d) (length s) ∙ drop-drop (length s) at d)
+    ∙ ap₂ (λ (t : List ℕ) (n : ℕ). (front ++ t) ++ drop n d) (take-length s) m
 
 -- total
 pub total-step : (g : ℕ → ℕ) (s : List ℕ) (i : ℕ) → i < length s → total g (drop i s) ≡ g (getD s i 0) + total g (drop (i + 1) s)

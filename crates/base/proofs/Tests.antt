@@ -20,6 +20,13 @@ and-true false b e = (e, let z : false ≡ true = e in cc)
 pub both-true : {a b : Bool} → a ≡ true → b ≡ true → a && b ≡ true
 both-true p q = rw (p, q)
 
+pub left-false : {a : Bool} (b : Bool) → a ≡ false → a && b ≡ false
+left-false b p = rw p
+
+pub right-false : (a : Bool) {b : Bool} → b ≡ false → a && b ≡ false
+right-false true p = p
+right-false false p = refl
+
 pub below-true : (p : ℕ → Bool) (n : ℕ) → allBelow p n ≡ true → (m : ℕ) → m < n → p m ≡ true
 below-true p zero e m h = absurd (not-suc-le-zero h)
 below-true p (suc n) e m h =

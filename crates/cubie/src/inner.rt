@@ -1,8 +1,9 @@
 // What other crates call without the tests of the public functions. A cube is in range where its refusal is 0.
 ghost use mathlib.Core.Path.{_≡_};
 ghost use mathlib.Core.List.{map};
-ghost use Prim.Native.Nat.{_≤_, _<_, _-_, _%_};
+ghost use Prim.Native.Nat.{_≤_, _<_, _+_, _-_, _%_};
 ghost use lib.ListN.{length, getD};
+ghost use lib.Seq.{paste};
 ghost use Rattle.base.specs.Lists.{Under, inRange, sameList, total};
 ghost use Rattle.base.specs.Parity.{swaps, Settled};
 ghost use Rattle.base.specs.Perm.{noRepeat};
@@ -89,7 +90,7 @@ pub fn phase2_move(j: usize) -> u8
     PHASE2_MOVES[j]
 }
 
-// ---- lists of pieces
+// ---- lists of bytes
 
 // Whether each is below `n`.
 pub fn in_range(s: &[u8], n: u8) -> bool
@@ -134,6 +135,18 @@ pub fn same_bytes(a: &[u8], b: &[u8]) -> bool
         i += 1;
     }
     true
+}
+
+// Writes `src` into `dst` from the place `at` on.
+pub fn copy_in(src: &[u8], dst: &mut [u8], at: usize)
+    requires { ⌜ at + length (now src) ≤ length (now dst) ⌝ }
+    ensures { λ r. ⌜ now (dst .exit) ≡ paste (now (dst .entry)) at (now (src .entry)) (length (now (src .entry))) ⌝ }
+{
+    let mut i = 0;
+    while i < src.len() {
+        dst[at + i] = src[i];
+        i += 1;
+    }
 }
 
 // One place of the selection loop: where place `i` does not hold `i`, it is swapped with the first later place that does.

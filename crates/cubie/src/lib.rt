@@ -1,9 +1,8 @@
 // The cube on the cubie level: kewb's src/cube/cubie.rs. The moves of src/cube/moves.rs stand in `moves`.
 ghost use mathlib.Core.Path.{_≡_};
-ghost use Rattle.cubie.specs.Answers.{told, counted, cubed, lowestOf, firstOf, refusalWith};
-ghost use Rattle.cubie.specs.Cube.{refusalOf, product, turn, applyMoves, isHome};
-ghost use Rattle.cubie.specs.Moves.{moveRefusal, movesRefusal};
-ghost use Rattle.cubie.specs.Solvable.{cornerTwist, edgeTwist, cornerPerm, edgePerm, solvable};
+ghost use Rattle.cubie.specs.Answers.{told, lowestOf, firstOf, refusalWith};
+ghost use Rattle.cubie.specs.Answers.{mulAnswer, moveAnswer, movesAnswer, solvedAnswer, solvableAnswer};
+ghost use Rattle.cubie.specs.Answers.{cornerTwistAnswer, edgeTwistAnswer, cornerPermAnswer, edgePermAnswer};
 
 pub mod inner;
 pub mod moves;
@@ -88,7 +87,7 @@ fn cube_refused(refusal: u8) -> CubeAnswer
 impl CubieCube {
     // The product, as `Mul` has it: the pieces of `self` at the places that `rhs` names.
     pub fn mul(self, rhs: CubieCube) -> CubeAnswer
-        ensures { λ r. ⌜ r ≡ cubed (lowestOf (refusalOf self) (refusalOf rhs)) (product self rhs) ⌝ }
+        ensures { λ r. ⌜ r ≡ mulAnswer self rhs ⌝ }
     {
         let refusal = lowest(inner::refusal(self), inner::refusal(rhs));
         if refusal != 0 {
@@ -101,7 +100,7 @@ impl CubieCube {
     }
 
     pub fn apply_move(self, m: u8) -> CubeAnswer
-        ensures { λ r. ⌜ r ≡ cubed (firstOf (refusalOf self) (moveRefusal m)) (turn self m) ⌝ }
+        ensures { λ r. ⌜ r ≡ moveAnswer self m ⌝ }
     {
         let refusal = first(inner::refusal(self), inner::move_refusal(m));
         if refusal != 0 {
@@ -115,7 +114,7 @@ impl CubieCube {
 
     // The moves of a lent list, one after the other.
     pub fn apply_moves(self, moves: &[u8]) -> CubeAnswer
-        ensures { λ r. ⌜ r ≡ cubed (firstOf (refusalOf self) (movesRefusal (now (moves .entry)))) (applyMoves self (now (moves .entry))) ⌝ }
+        ensures { λ r. ⌜ r ≡ movesAnswer self (now (moves .entry)) ⌝ }
     {
         let refusal = inner::refusal(self);
         if refusal != 0 {
@@ -132,14 +131,14 @@ impl CubieCube {
 
     // Whether each piece is at its place, and none turned.
     pub fn is_solved(self) -> Answer
-        ensures { λ r. ⌜ r ≡ told (refusalOf self) (isHome self) ⌝ }
+        ensures { λ r. ⌜ r ≡ solvedAnswer self ⌝ }
     {
         tell(inner::refusal(self), inner::is_solved(self))
     }
 
     // The twists that the corners still need.
     pub fn count_corner_twist(self) -> Number
-        ensures { λ r. ⌜ r ≡ counted (refusalOf self) (cornerTwist self) ⌝ }
+        ensures { λ r. ⌜ r ≡ cornerTwistAnswer self ⌝ }
     {
         let refusal = inner::refusal(self);
         if refusal != 0 {
@@ -150,7 +149,7 @@ impl CubieCube {
 
     // The flips that the edges still need.
     pub fn count_edge_twist(self) -> Number
-        ensures { λ r. ⌜ r ≡ counted (refusalOf self) (edgeTwist self) ⌝ }
+        ensures { λ r. ⌜ r ≡ edgeTwistAnswer self ⌝ }
     {
         let refusal = inner::refusal(self);
         if refusal != 0 {
@@ -161,7 +160,7 @@ impl CubieCube {
 
     // The swaps that sort the corners.
     pub fn count_corner_perm(self) -> Number
-        ensures { λ r. ⌜ r ≡ counted (refusalOf self) (cornerPerm self) ⌝ }
+        ensures { λ r. ⌜ r ≡ cornerPermAnswer self ⌝ }
     {
         let refusal = inner::refusal(self);
         if refusal != 0 {
@@ -172,7 +171,7 @@ impl CubieCube {
 
     // The swaps that sort the edges.
     pub fn count_edge_perm(self) -> Number
-        ensures { λ r. ⌜ r ≡ counted (refusalOf self) (edgePerm self) ⌝ }
+        ensures { λ r. ⌜ r ≡ edgePermAnswer self ⌝ }
     {
         let refusal = inner::refusal(self);
         if refusal != 0 {
@@ -183,7 +182,7 @@ impl CubieCube {
 
     // No piece twice, equal parity, twists 0 modulo 3, flips 0 modulo 2.
     pub fn is_solvable(self) -> Answer
-        ensures { λ r. ⌜ r ≡ told (refusalOf self) (solvable self) ⌝ }
+        ensures { λ r. ⌜ r ≡ solvableAnswer self ⌝ }
     {
         let refusal = inner::refusal(self);
         if refusal != 0 {

@@ -1,7 +1,7 @@
 // The 18 moves by their numbers, as kewb's src/cube/moves.rs declares them: U U2 U3 D D2 D3 R R2 R3 L L2 L3 F F2 F3 B B2 B3.
 ghost use mathlib.Core.Path.{_≡_};
-ghost use Rattle.cubie.specs.Answers.{told, counted, lowestOf};
-ghost use Rattle.cubie.specs.Moves.{moveRefusal, isInverse, isSameLayer, inverseMove, isAvailable};
+ghost use Rattle.cubie.specs.Answers.{ofTwo, inverseMoveAnswer};
+ghost use Rattle.cubie.specs.Moves.{isInverse, isSameLayer, isAvailable};
 use crate::Answer;
 use crate::CubieCube;
 use crate::Number;
@@ -60,7 +60,7 @@ pub const B_MOVE: CubieCube = CubieCube {
 
 // Whether the two turn opposite layers, the first of them U, R or F.
 pub fn is_inverse(m: u8, other: u8) -> Answer
-    ensures { λ r. ⌜ r ≡ told (lowestOf (moveRefusal m) (moveRefusal other)) (isInverse m other) ⌝ }
+    ensures { λ r. ⌜ r ≡ ofTwo isInverse m other ⌝ }
 {
     tell(
         lowest(inner::move_refusal(m), inner::move_refusal(other)),
@@ -69,7 +69,7 @@ pub fn is_inverse(m: u8, other: u8) -> Answer
 }
 
 pub fn is_same_layer(m: u8, other: u8) -> Answer
-    ensures { λ r. ⌜ r ≡ told (lowestOf (moveRefusal m) (moveRefusal other)) (isSameLayer m other) ⌝ }
+    ensures { λ r. ⌜ r ≡ ofTwo isSameLayer m other ⌝ }
 {
     tell(
         lowest(inner::move_refusal(m), inner::move_refusal(other)),
@@ -79,7 +79,7 @@ pub fn is_same_layer(m: u8, other: u8) -> Answer
 
 // Whether `current` may follow `prev`: not on the same layer, and not U after D, R after L, F after B.
 pub fn is_move_available(prev: u8, current: u8) -> Answer
-    ensures { λ r. ⌜ r ≡ told (lowestOf (moveRefusal prev) (moveRefusal current)) (isAvailable prev current) ⌝ }
+    ensures { λ r. ⌜ r ≡ ofTwo isAvailable prev current ⌝ }
 {
     tell(
         lowest(inner::move_refusal(prev), inner::move_refusal(current)),
@@ -89,7 +89,7 @@ pub fn is_move_available(prev: u8, current: u8) -> Answer
 
 // The move that takes `m` back.
 pub fn get_inverse(m: u8) -> Number
-    ensures { λ r. ⌜ r ≡ counted (moveRefusal m) (inverseMove m) ⌝ }
+    ensures { λ r. ⌜ r ≡ inverseMoveAnswer m ⌝ }
 {
     if m >= 18 {
         return Number::Refused(7);

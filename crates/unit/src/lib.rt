@@ -1,0 +1,147 @@
+// The C interface, for the trainer's firmware and for Rust: each function returns the paper's number, 0 for none, and writes into lent
+// bytes, which a refusal leaves as they were. A lent slice of another length than is said is refused with 10, before all else.
+ghost use mathlib.Core.Path.{_≡_};
+ghost use Rattle.unit.specs.Calls.{Leaves, mulCall, moveCall, movesCall, solvedCall, solvableCall, countsCall, inverseMoveCall, ofTwoCall};
+ghost use Rattle.cubie.specs.Moves.{isInverse, isSameLayer, isAvailable};
+use cubie::inner;
+use cubie::moves;
+
+mod bytes;
+
+// The product of two cubes of 40 bytes each: cp 8, co 8, ep 12, eo 12.
+#[no_mangle]
+pub extern "C" fn tsunghawi_mul(a: &[u8], b: &[u8], out: &mut [u8]) -> u8
+    ensures { λ r. ⌜ Leaves (mulCall (now (a .entry)) (now (b .entry)) (now (out .entry))) r (now (out .exit)) ⌝ }
+{
+    if a.len() != 40 {
+        return 10;
+    }
+    if b.len() != 40 {
+        return 10;
+    }
+    if out.len() != 40 {
+        return 10;
+    }
+    bytes::leave_cube(bytes::cube_of(a).mul(bytes::cube_of(b)), out)
+}
+
+// The cube after one move.
+#[no_mangle]
+pub extern "C" fn tsunghawi_apply_move(cube: &[u8], m: u8, out: &mut [u8]) -> u8
+    ensures { λ r. ⌜ Leaves (moveCall (now (cube .entry)) m (now (out .entry))) r (now (out .exit)) ⌝ }
+{
+    if cube.len() != 40 {
+        return 10;
+    }
+    if out.len() != 40 {
+        return 10;
+    }
+    bytes::leave_cube(bytes::cube_of(cube).apply_move(m), out)
+}
+
+// The cube after a list of moves, a byte each.
+#[no_mangle]
+pub extern "C" fn tsunghawi_apply_moves(cube: &[u8], moves: &[u8], out: &mut [u8]) -> u8
+    ensures { λ r. ⌜ Leaves (movesCall (now (cube .entry)) (now (moves .entry)) (now (out .entry))) r (now (out .exit)) ⌝ }
+{
+    if cube.len() != 40 {
+        return 10;
+    }
+    if out.len() != 40 {
+        return 10;
+    }
+    bytes::leave_cube(bytes::cube_of(cube).apply_moves(moves), out)
+}
+
+// Whether a cube is solved: one byte, 1 or 0.
+#[no_mangle]
+pub extern "C" fn tsunghawi_is_solved(cube: &[u8], out: &mut [u8]) -> u8
+    ensures { λ r. ⌜ Leaves (solvedCall (now (cube .entry)) (now (out .entry))) r (now (out .exit)) ⌝ }
+{
+    if cube.len() != 40 {
+        return 10;
+    }
+    if out.len() != 1 {
+        return 10;
+    }
+    bytes::leave_answer(bytes::cube_of(cube).is_solved(), out)
+}
+
+// Whether a cube is solvable: one byte, 1 or 0.
+#[no_mangle]
+pub extern "C" fn tsunghawi_is_solvable(cube: &[u8], out: &mut [u8]) -> u8
+    ensures { λ r. ⌜ Leaves (solvableCall (now (cube .entry)) (now (out .entry))) r (now (out .exit)) ⌝ }
+{
+    if cube.len() != 40 {
+        return 10;
+    }
+    if out.len() != 1 {
+        return 10;
+    }
+    bytes::leave_answer(bytes::cube_of(cube).is_solvable(), out)
+}
+
+// The four counts, a byte each: corner twists, edge flips, corner swaps, edge swaps.
+#[no_mangle]
+pub extern "C" fn tsunghawi_counts(cube: &[u8], out: &mut [u8]) -> u8
+    ensures { λ r. ⌜ Leaves (countsCall (now (cube .entry)) (now (out .entry))) r (now (out .exit)) ⌝ }
+{
+    if cube.len() != 40 {
+        return 10;
+    }
+    if out.len() != 4 {
+        return 10;
+    }
+    let c = bytes::cube_of(cube);
+    let refusal = inner::refusal(c);
+    if refusal != 0 {
+        return refusal;
+    }
+    out[0] = inner::count_corner_twist(c);
+    out[1] = inner::count_edge_twist(c);
+    out[2] = inner::count_corner_perm(c);
+    out[3] = inner::count_edge_perm(c);
+    0
+}
+
+// The move that takes `m` back: one byte.
+#[no_mangle]
+pub extern "C" fn tsunghawi_get_inverse(m: u8, out: &mut [u8]) -> u8
+    ensures { λ r. ⌜ Leaves (inverseMoveCall m (now (out .entry))) r (now (out .exit)) ⌝ }
+{
+    if out.len() != 1 {
+        return 10;
+    }
+    bytes::leave_number(moves::get_inverse(m), out)
+}
+
+#[no_mangle]
+pub extern "C" fn tsunghawi_is_inverse(m: u8, other: u8, out: &mut [u8]) -> u8
+    ensures { λ r. ⌜ Leaves (ofTwoCall isInverse m other (now (out .entry))) r (now (out .exit)) ⌝ }
+{
+    if out.len() != 1 {
+        return 10;
+    }
+    bytes::leave_answer(moves::is_inverse(m, other), out)
+}
+
+#[no_mangle]
+pub extern "C" fn tsunghawi_is_same_layer(m: u8, other: u8, out: &mut [u8]) -> u8
+    ensures { λ r. ⌜ Leaves (ofTwoCall isSameLayer m other (now (out .entry))) r (now (out .exit)) ⌝ }
+{
+    if out.len() != 1 {
+        return 10;
+    }
+    bytes::leave_answer(moves::is_same_layer(m, other), out)
+}
+
+// Whether `current` may follow `prev`: one byte, 1 or 0.
+#[no_mangle]
+pub extern "C" fn tsunghawi_is_move_available(prev: u8, current: u8, out: &mut [u8]) -> u8
+    ensures { λ r. ⌜ Leaves (ofTwoCall isAvailable prev current (now (out .entry))) r (now (out .exit)) ⌝ }
+{
+    if out.len() != 1 {
+        return 10;
+    }
+    bytes::leave_answer(moves::is_move_available(prev, current), out)
+}
