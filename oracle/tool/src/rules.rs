@@ -44,7 +44,8 @@ fn distance_to_zero(a: &Table<u16>, b: &Table<u16>) -> Table<u8> {
     let mut d = vec![vec![u8::MAX; b.len()]; a.len()];
     d[0][0] = 0;
     for distance in 0.. {
-        let steps_to = |i: usize, j: usize| a[i].iter().zip(&b[j]).any(|(&x, &y)| d[x as usize][y as usize] == distance);
+        let steps_to =
+            |i: usize, j: usize| a[i].iter().zip(&b[j]).any(|(&x, &y)| d[x as usize][y as usize] == distance);
         let pairs = (0..a.len()).flat_map(|i| (0..b.len()).map(move |j| (i, j)));
         let new: Vec<(usize, usize)> = pairs.filter(|&(i, j)| d[i][j] == u8::MAX && steps_to(i, j)).collect();
         if new.is_empty() {

@@ -2,9 +2,9 @@
 use super::State;
 use crate::cubes::{numbers, solvable_cube};
 use crate::plain::plain;
+use crate::rules;
 use crate::search::{crate_search, search as counted, search_untrue, Answer};
 use crate::tables::{self, fnv, zeroed, LENGTHS};
-use crate::{rules, tables::entry as table_entry};
 use kewb::oracle::cubie::CubieCube;
 use wire::{answer, Args};
 
@@ -47,7 +47,7 @@ fn own(state: &mut State, cube: CubieCube, limit: u8) -> String {
 
 pub fn entry(state: &mut State, args: &Args) -> Option<String> {
     let (t, i) = (table(args, 0..10)?, args.number(1)?);
-    Some(answer(Ok(table_entry(state.tables(), t, i)?.to_string())))
+    Some(answer(Ok(tables::entry(state.tables(), t, i)?.to_string())))
 }
 
 pub fn sum(state: &mut State, args: &Args) -> Option<String> {
@@ -82,7 +82,11 @@ pub fn build(state: &mut State, args: &Args) -> Option<String> {
         Err(n) => answer(Err(n)),
         Ok(p) => {
             let sum = format!("{} {:016x}", p.len(), fnv(p.iter().copied()));
-            if p.contains(&255) { format!("refused 14 {sum}") } else { answer(Ok(sum)) }
+            if p.contains(&255) {
+                format!("refused 14 {sum}")
+            } else {
+                answer(Ok(sum))
+            }
         }
     })
 }

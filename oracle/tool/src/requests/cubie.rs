@@ -111,11 +111,13 @@ fn bad_lists(g: &mut Rng, ask: Ask) {
     }
 }
 
-/// Every cube that differs from the solved one in at most one number.
+/// The solved cube and every cube that differs from it in one number.
 fn one_number_off(g: &mut Rng, ask: Ask) {
+    let start = raw(&solved());
+    of_cube(&start, ask);
     for place in 0..40 {
-        for number in 0..=255 {
-            let mut cube = raw(&solved());
+        for number in (0..=255).filter(|&n| n != start[place]) {
+            let mut cube = start;
             cube[place] = number;
             of_cube(&cube, ask);
             ask(format!("move {} {}", join(&cube), g.below(18)));

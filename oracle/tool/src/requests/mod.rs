@@ -15,6 +15,10 @@ pub struct Step {
 
 const STEPS: [Step; 1] = [Step { name: "cubie", compare: cubie::compare, sample: cubie::sample }];
 
-pub fn step(name: &str) -> Option<&'static Step> {
-    STEPS.iter().find(|s| s.name == name)
+/// The step of a name; says which there are where there is none.
+pub fn step(name: &str) -> &'static Step {
+    STEPS.iter().find(|s| s.name == name).unwrap_or_else(|| {
+        eprintln!("no step {name}; there are: {}", STEPS.map(|s| s.name).join(" "));
+        std::process::exit(2)
+    })
 }

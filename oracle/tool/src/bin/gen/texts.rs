@@ -9,6 +9,7 @@ use tool::text::list_text;
 use wire::{bytes_text, join};
 
 /// Text that is a list, and text that misses it by little.
+#[rustfmt::skip]
 const FIXED: [&[u8]; 44] = [
     b"", b"U", b"U2", b"U'", b"U3", b"U1", b"u", b" ", b"  ", b" U", b"U ", b"U  R", b"U\tR", b"U\n", b"\n", b"U R",
     b"U' R2 F", b"UR", b"U'2", b"U2'", b"U''", b"'", b"2", b"U 2", b"U '", b"M", b"x", b"U\x00", b"\x00", b"\xff",

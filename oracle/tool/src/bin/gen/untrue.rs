@@ -90,11 +90,8 @@ fn anywhere(o: &mut Out, g: &mut Rng, check: bool) {
 /// Entries that a search of this cube meets: in rows of the cube itself or of one a move or two away.
 fn met(o: &mut Out, g: &mut Rng) {
     let second = g.once_in(2);
-    let c = if !second && g.once_in(5) {
-        cube_of(Kind::Co, g.below(Kind::Co.count()))
-    } else {
-        short_cube(g, second, 5)
-    };
+    let c =
+        if !second && g.once_in(5) { cube_of(Kind::Co, g.below(Kind::Co.count())) } else { short_cube(g, second, 5) };
     for _ in 0..1 + g.below(3) {
         poke_near(o, g, c, second);
     }

@@ -1,0 +1,8 @@
+//! driver: the product's answers to the line protocol, through its static library.
+mod cubie;
+mod ffi;
+mod protocol;
+
+fn main() -> std::io::Result<()> {
+    wire::serve(protocol::handle)
+}
