@@ -10,7 +10,7 @@ use cubie::Verdict;
 use cubie::inner;
 
 // A cube from its 40 bytes.
-pub fn cube_of(s: &[u8]) -> CubieCube
+pub(crate) fn cube_of(s: &[u8]) -> CubieCube
     requires { ⌜ length (now s) ≡ 40 ⌝ }
     ensures { λ r. ⌜ r ≡ cubeOf (now (s .entry)) ⌝ }
 {
@@ -41,7 +41,7 @@ fn put_cube(c: CubieCube, out: &mut [u8])
 }
 
 // The number of an answer; its cube is written, unless it is refused.
-pub fn leave_cube(a: CubeAnswer, out: &mut [u8]) -> u8
+pub(crate) fn leave_cube(a: CubeAnswer, out: &mut [u8]) -> u8
     requires { ⌜ length (now out) ≡ 40 ⌝ }
     ensures { λ r. ⌜ Leaves (cubeLeft a (now (out .entry))) r (now (out .exit)) ⌝ }
 {
@@ -56,7 +56,7 @@ pub fn leave_cube(a: CubeAnswer, out: &mut [u8]) -> u8
     }
 }
 
-pub fn leave_answer(a: Answer, out: &mut [u8]) -> u8
+pub(crate) fn leave_answer(a: Answer, out: &mut [u8]) -> u8
     requires { ⌜ length (now out) ≡ 1 ⌝ }
     ensures { λ r. ⌜ Leaves (answerLeft a (now (out .entry))) r (now (out .exit)) ⌝ }
 {
@@ -73,7 +73,7 @@ pub fn leave_answer(a: Answer, out: &mut [u8]) -> u8
     }
 }
 
-pub fn leave_number(a: Number, out: &mut [u8]) -> u8
+pub(crate) fn leave_number(a: Number, out: &mut [u8]) -> u8
     requires { ⌜ length (now out) ≡ 1 ⌝ }
     ensures { λ r. ⌜ Leaves (numberLeft a (now (out .entry))) r (now (out .exit)) ⌝ }
 {
