@@ -1,17 +1,17 @@
 -- The product of cubes, one list at a time, over any length and modulus: it is associative, the solved cube is its unit, it keeps the range.
 -- Assumes nothing.
-use Prim.Native.Nat.{ℕ, zero, suc, _+_, _%_, _<_}
+use Prim.Native.Nat.{ℕ, zero, suc, _+_, _%_, _≤_, _<_}
 use mathlib.Core.Path.{_≡_, refl, sym, ap, ap₂, _∙_}
 use mathlib.Core.List.{List, [], _∷_, map}
 use lib.ListN.{length, getD, drop, replicate, drop-of-length-le, length-map, getD-replicate}
-use lib.Seq.{drop-cons}
+use lib.Seq.{drop-cons, ext-getD}
 use native.Mathlib.Nat.{not-suc-le-zero, le-of-suc-le-suc, mod-lt, mod-eq-of-lt, mod-add-mod, add-mod-mod, add-assoc, add-zero, zero-add}
 use native.Mathlib.Omega.{arith}
 use Rattle.base.specs.Lists.{Under, Sized, range, total}
 use Rattle.base.specs.Perm.{Perm}
 use Rattle.base.specs.Product.{compose, twisted}
-use Rattle.base.proofs.Parity.{total-places}
-use Rattle.base.proofs.Tests.{under-at}
+use Rattle.base.proofs.Parity.{length-range, total-places}
+use Rattle.base.proofs.Tests.{under-at, under-map}
 
 -- what stands at a place
 
@@ -77,11 +77,31 @@ twisted-unit {n} {k} {t} x = go 0 n (omega (arith, x .size))
         let s : i < length t = omega arith in
         ap₂ _∷_ (ap (λ (w : ℕ). w % k) (add-zero (getD t i 0)) ∙ mod-eq-of-lt (under-at k t i (x .small) s)) (go (suc i) j (omega arith)) ∙ sym (drop-cons t i 0 s)
 
-range-at : (m n i : ℕ) → i < n → getD (range m n) i 0 ≡ m + i
+pub range-at : (m n i : ℕ) → i < n → getD (range m n) i 0 ≡ m + i
 unfolding range
 range-at m zero i h = absurd (not-suc-le-zero h)
 range-at m (suc n) zero h = sym (add-zero m)
 range-at m (suc n) (suc i) h = range-at (suc m) n i (le-of-suc-le-suc h) ∙ omega arith
+
+-- a list that is given place by place
+pub map-range-at : (f : ℕ → ℕ) (n i : ℕ) → i < n → getD (map f (range 0 n)) i 0 ≡ f i
+map-range-at f n i h = map-at f (range 0 n) i (omega (arith, length-range 0 n)) ∙ ap f (range-at 0 n i h ∙ zero-add i)
+
+pub map-range-length : (f : ℕ → ℕ) (n : ℕ) → length (map f (range 0 n)) ≡ n
+map-range-length f n = length-map (range 0 n) f ∙ length-range 0 n
+
+pub map-range-is : (f : ℕ → ℕ) (n : ℕ) (xs : List ℕ) → length xs ≡ n → ((i : ℕ) → i < n → f i ≡ getD xs i 0) → map f (range 0 n) ≡ xs
+map-range-is f n xs l h =
+    ext-getD 0 (map f (range 0 n)) xs (map-range-length f n ∙ sym l)
+    (λ i k. let b : i < n = omega (arith, map-range-length f n) in map-range-at f n i b ∙ h i b)
+
+range-under : (m n k : ℕ) → m + n ≤ k → Under k (range m n)
+unfolding range
+range-under m zero k h = tt
+range-under m (suc n) k h = (omega arith, range-under (suc m) n k (omega arith))
+
+pub map-range-under : (f : ℕ → ℕ) (n k : ℕ) → ((i : ℕ) → i < n → f i < k) → Under k (map f (range 0 n))
+map-range-under f n k h = under-map n k f h (range 0 n) (range-under 0 n n (omega arith))
 
 pub unit-compose : (n : ℕ) (q : List ℕ) → Under n q → compose (range 0 n) q ≡ q
 unit-compose n [] h = refl

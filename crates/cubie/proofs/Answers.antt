@@ -62,3 +62,17 @@ move-none m h = go (ltb m 18) refl h
     go : (p : Bool) → ltb m 18 ≡ p → pick p 0 7 ≡ zero → m < 18
     go true a e = ltb-true m 18 a
     go false a e = absurd (omega arith)
+
+-- what a verdict tells of the refusal
+pub was-good : (n : ℕ) (c : CubieCube) → cubed n c .verdict ≡ verdict.Good → n ≡ 0
+was-good n c h = go (eqb n 0) refl h
+  where
+    go : (p : Bool) → eqb n 0 ≡ p → pick p (record { verdict = verdict.Good; cube = c }) (refusalWith n) .verdict ≡ verdict.Good → n ≡ 0
+    go true a e = eqb-true n 0 a
+    go false a e = cc
+
+pub was-refused : (n k : ℕ) (c : CubieCube) → cubed n c .verdict ≡ verdict.Refused k → n ≡ 0 → ⊥
+was-refused n k c h z = let e : verdict.Good ≡ verdict.Refused k = rw (eq-eqb n 0 z) at h in let f : _≡_ {A = ℕ} 0 1 = cc in omega arith
+
+pub good-cube : (n : ℕ) (c : CubieCube) → n ≡ 0 → cubed n c .cube ≡ c
+good-cube n c z = rw (eq-eqb n 0 z)

@@ -8,11 +8,14 @@ ghost use Rattle.base.specs.Lists.{Under, inRange, sameList, total};
 ghost use Rattle.base.specs.Parity.{swaps, Settled};
 ghost use Rattle.base.specs.Perm.{noRepeat};
 ghost use Rattle.base.specs.Product.{compose, twisted};
+ghost use Rattle.cubie.specs.Answers.{refusalWith};
 ghost use Rattle.cubie.specs.Cube.{refusalOf, product, solvedCube, quarterTurns, moveOf, turn, applyMoves, isHome};
 ghost use Rattle.cubie.specs.Moves.{moveRefusal, isInverse, isSameLayer, inverseMove, isAvailable, allMoves, phase2Moves};
 ghost use Rattle.cubie.specs.Solvable.{cornerTwist, edgeTwist, cornerPerm, edgePerm, solvable};
+use crate::CubeAnswer;
 use crate::CubieCube;
 use crate::SOLVED_CUBIE_CUBE;
+use crate::Verdict;
 use crate::moves::ALL_MOVES;
 use crate::moves::B_MOVE;
 use crate::moves::D_MOVE;
@@ -226,6 +229,16 @@ fn twist(t: &[u8], q: &[u8], s: &[u8], k: u8, out: &mut [u8])
 }
 
 // ---- cubes
+
+// A refusal, with the solved cube beside it.
+pub fn cube_refused(refusal: u8) -> CubeAnswer
+    ensures { λ r. ⌜ r ≡ refusalWith refusal ⌝ }
+{
+    CubeAnswer {
+        verdict: Verdict::Refused(refusal),
+        cube: SOLVED_CUBIE_CUBE,
+    }
+}
 
 // 4, 5 or 6 for a number out of range, the lowest; 0 for a cube in range.
 pub fn refusal(c: CubieCube) -> u8

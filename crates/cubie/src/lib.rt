@@ -1,6 +1,6 @@
 // The cube on the cubie level: kewb's src/cube/cubie.rs. The moves of src/cube/moves.rs stand in `moves`.
 ghost use mathlib.Core.Path.{_≡_};
-ghost use Rattle.cubie.specs.Answers.{told, lowestOf, firstOf, refusalWith};
+ghost use Rattle.cubie.specs.Answers.{told, lowestOf, firstOf};
 ghost use Rattle.cubie.specs.Answers.{mulAnswer, moveAnswer, movesAnswer, solvedAnswer, solvableAnswer};
 ghost use Rattle.cubie.specs.Answers.{cornerTwistAnswer, edgeTwistAnswer, cornerPermAnswer, edgePermAnswer};
 
@@ -75,15 +75,6 @@ fn tell(refusal: u8, yes: bool) -> Answer
     if yes { Answer::Yes } else { Answer::No }
 }
 
-fn cube_refused(refusal: u8) -> CubeAnswer
-    ensures { λ r. ⌜ r ≡ refusalWith refusal ⌝ }
-{
-    CubeAnswer {
-        verdict: Verdict::Refused(refusal),
-        cube: SOLVED_CUBIE_CUBE,
-    }
-}
-
 impl CubieCube {
     // The product, as `Mul` has it: the pieces of `self` at the places that `rhs` names.
     pub fn mul(self, rhs: CubieCube) -> CubeAnswer
@@ -91,7 +82,7 @@ impl CubieCube {
     {
         let refusal = lowest(inner::refusal(self), inner::refusal(rhs));
         if refusal != 0 {
-            return cube_refused(refusal);
+            return inner::cube_refused(refusal);
         }
         CubeAnswer {
             verdict: Verdict::Good,
@@ -104,7 +95,7 @@ impl CubieCube {
     {
         let refusal = first(inner::refusal(self), inner::move_refusal(m));
         if refusal != 0 {
-            return cube_refused(refusal);
+            return inner::cube_refused(refusal);
         }
         CubeAnswer {
             verdict: Verdict::Good,
@@ -118,10 +109,10 @@ impl CubieCube {
     {
         let refusal = inner::refusal(self);
         if refusal != 0 {
-            return cube_refused(refusal);
+            return inner::cube_refused(refusal);
         }
         if !inner::in_range(moves, 18) {
-            return cube_refused(7);
+            return inner::cube_refused(7);
         }
         CubeAnswer {
             verdict: Verdict::Good,

@@ -17,6 +17,9 @@ use Rattle.cubie.specs.declared.Number.{Number}
 use Rattle.cubie.specs.declared.Number.the-variants as number
 use Rattle.cubie.specs.declared.Verdict.{Verdict}
 use Rattle.cubie.specs.declared.Verdict.the-variants as verdict
+use Rattle.facelet.specs.Picture.{pictureAnswer}
+use Rattle.facelet.specs.Reader.{readPlain, readStrict}
+use Rattle.facelet.specs.declared.FaceAnswer.{FaceAnswer}
 
 -- the number that a call returns, and the lent bytes after it
 pub record Left : Type 0 where
@@ -48,6 +51,13 @@ verdictLeft (verdict.Refused n) c before = refuse n before
 
 abbrev pub cubeLeft : CubeAnswer → List ℕ → Left
 cubeLeft a before = verdictLeft (a .verdict) (a .cube) before
+
+abbrev pub facesLeft : Verdict → List ℕ → List ℕ → Left
+facesLeft verdict.Good face before = leave face
+facesLeft (verdict.Refused n) face before = refuse n before
+
+abbrev pub faceLeft : FaceAnswer → List ℕ → Left
+faceLeft a before = facesLeft (a .verdict) (a .face) before
 
 abbrev pub answerLeft : Answer → List ℕ → Left
 answerLeft Yes before = leave (1 ∷ [])
@@ -93,3 +103,10 @@ inverseMoveCall m out = sized (eqb (length out) 1) (numberLeft (inverseMoveAnswe
 
 abbrev pub ofTwoCall : (ℕ → ℕ → Bool) → ℕ → ℕ → List ℕ → Left
 ofTwoCall f m n out = sized (eqb (length out) 1) (answerLeft (ofTwo f m n) out) out
+
+-- stickers may have any length: one that is not 54 is the reader's 1
+abbrev pub readCall : (List ℕ → CubeAnswer) → List ℕ → List ℕ → Left
+readCall reader s out = sized (eqb (length out) 40) (cubeLeft (reader s) out) out
+
+abbrev pub pictureCall : List ℕ → List ℕ → Left
+pictureCall s out = sized (eqb (length s) 40 && eqb (length out) 54) (faceLeft (pictureAnswer (cubeOf s)) out) out

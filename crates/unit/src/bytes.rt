@@ -1,13 +1,14 @@
 // Cubes and answers as lent bytes.
 ghost use mathlib.Core.Path.{_≡_};
 ghost use lib.ListN.{length};
-ghost use Rattle.unit.specs.Calls.{cubeOf, bytesOf, Leaves, cubeLeft, answerLeft, numberLeft};
+ghost use Rattle.unit.specs.Calls.{cubeOf, bytesOf, Leaves, cubeLeft, faceLeft, answerLeft, numberLeft};
 use cubie::Answer;
 use cubie::CubeAnswer;
 use cubie::CubieCube;
 use cubie::Number;
 use cubie::Verdict;
 use cubie::inner;
+use facelet::FaceAnswer;
 
 // A cube from its 40 bytes.
 pub(crate) fn cube_of(s: &[u8]) -> CubieCube
@@ -51,6 +52,22 @@ pub(crate) fn leave_cube(a: CubeAnswer, out: &mut [u8]) -> u8
         Verdict::Good => {
             let cube = a.cube;
             put_cube(cube, out);
+            0
+        }
+    }
+}
+
+// The same for a picture.
+pub(crate) fn leave_face(a: FaceAnswer, out: &mut [u8]) -> u8
+    requires { ⌜ length (now out) ≡ 54 ⌝ }
+    ensures { λ r. ⌜ Leaves (faceLeft a (now (out .entry))) r (now (out .exit)) ⌝ }
+{
+    let verdict = a.verdict;
+    match verdict {
+        Verdict::Refused(n) => n,
+        Verdict::Good => {
+            let face = a.face;
+            inner::copy_in(&face, out, 0);
             0
         }
     }

@@ -2,6 +2,8 @@
 // bytes, which a refusal leaves as they were. A lent slice of another length than is said is refused with 10, before all else.
 ghost use mathlib.Core.Path.{_≡_};
 ghost use Rattle.unit.specs.Calls.{Leaves, mulCall, moveCall, movesCall, solvedCall, solvableCall, countsCall, inverseMoveCall, ofTwoCall};
+ghost use Rattle.unit.specs.Calls.{readCall, pictureCall};
+ghost use Rattle.facelet.specs.Reader.{readPlain, readStrict};
 ghost use Rattle.cubie.specs.Moves.{isInverse, isSameLayer, isAvailable};
 use cubie::inner;
 use cubie::moves;
@@ -144,4 +146,40 @@ pub extern "C" fn tsunghawi_is_move_available(prev: u8, current: u8, out: &mut [
         return 10;
     }
     bytes::leave_answer(moves::is_move_available(prev, current), out)
+}
+
+// The cube that 54 stickers are read as, as kewb reads: what matches no piece is taken for the solved one.
+#[no_mangle]
+pub extern "C" fn tsunghawi_read_plain(stickers: &[u8], out: &mut [u8]) -> u8
+    ensures { λ r. ⌜ Leaves (readCall readPlain (now (stickers .entry)) (now (out .entry))) r (now (out .exit)) ⌝ }
+{
+    if out.len() != 40 {
+        return 10;
+    }
+    bytes::leave_cube(facelet::read_plain(stickers), out)
+}
+
+// The cube whose picture the 54 stickers are, and no other.
+#[no_mangle]
+pub extern "C" fn tsunghawi_read_strict(stickers: &[u8], out: &mut [u8]) -> u8
+    ensures { λ r. ⌜ Leaves (readCall readStrict (now (stickers .entry)) (now (out .entry))) r (now (out .exit)) ⌝ }
+{
+    if out.len() != 40 {
+        return 10;
+    }
+    bytes::leave_cube(facelet::read_strict(stickers), out)
+}
+
+// The 54 stickers of a cube.
+#[no_mangle]
+pub extern "C" fn tsunghawi_picture(cube: &[u8], out: &mut [u8]) -> u8
+    ensures { λ r. ⌜ Leaves (pictureCall (now (cube .entry)) (now (out .entry))) r (now (out .exit)) ⌝ }
+{
+    if cube.len() != 40 {
+        return 10;
+    }
+    if out.len() != 54 {
+        return 10;
+    }
+    bytes::leave_face(facelet::picture(bytes::cube_of(cube)), out)
 }

@@ -1,8 +1,8 @@
--- `cubie::cube_refused` meets its contract. Assumes nothing.
+-- `cubie::inner::cube_refused` meets its contract. Assumes nothing.
 use mathlib.Core.Path.{refl}
 use Rattle.cubie.specs.Cube.{solvedCube}
-use Rattle.cubie.proofs.cube_refused.Statement.{statement}
-use Rattle.cubie.proofs.cube_refused.Tie as tie
+use Rattle.cubie.proofs.inner.cube_refused.Statement.{statement}
+use Rattle.cubie.proofs.inner.cube_refused.Tie as tie
 
 returns : tie.Need-returns
 unfolding solvedCube

@@ -1,0 +1,9 @@
+pub mod Back
+pub mod First
+pub mod Found
+pub mod Letters
+pub mod Paint
+pub mod Places
+pub mod Ranges
+pub mod Readers
+pub mod Strict

@@ -1,0 +1,3 @@
+pub mod Picture
+pub mod Reader
+pub mod Stickers

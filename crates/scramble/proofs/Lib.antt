@@ -1,0 +1,4 @@
+pub mod Answers
+pub mod Over
+pub mod Text
+pub mod Words
