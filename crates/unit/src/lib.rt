@@ -5,8 +5,13 @@ ghost use Rattle.unit.specs.Calls.{Leaves, mulCall, moveCall, movesCall,
 ghost use Rattle.unit.specs.Calls.{readCall, pictureCall};
 ghost use Rattle.facelet.specs.Reader.{readPlain, readStrict};
 ghost use Rattle.cubie.specs.Moves.{isInverse, isSameLayer, isAvailable};
+ghost use Rattle.scramble.specs.Answers.{parsedText, parsedRoom, writtenText, writtenRoom};
+ghost use Rattle.scramble.specs.Text.{textOf};
+ghost use Rattle.unit.specs.Text.{parsedNumber, parsedCount, writtenNumber, writtenCount};
 use cubie::inner;
 use cubie::moves;
+use scramble::Parsed;
+use scramble::Written;
 
 mod bytes;
 
@@ -182,4 +187,38 @@ pub extern "C" fn tsunghawi_picture(cube: &[u8], out: &mut [u8]) -> u8
         return 10;
     }
     bytes::leave_face(facelet::picture(bytes::cube_of(cube)), out)
+}
+
+// The moves of a text, in the first places of `list`, and how many they are.
+#[no_mangle]
+pub extern "C" fn tsunghawi_scramble_from_str(text: &[u8], list: &mut [u8], count: &mut usize) -> u8
+    ensures { λ r. ⌜ r ≡ parsedNumber (parsedText (now (text .entry)) (now (list .entry))) ⌝ }
+    ensures { λ r. ⌜ now (list .exit) ≡ parsedRoom (now (text .entry)) (now (list .entry)) ⌝ }
+    ensures { λ r. ⌜ now (count .exit) ≡ parsedCount (parsedText (now (text .entry)) (now (list .entry))) (now (count .entry)) ⌝ }
+{
+    let parsed = scramble::scramble_from_str(text, list);
+    match parsed {
+        Parsed::Refused(n) => n,
+        Parsed::Moves(k) => {
+            *count = k;
+            0
+        }
+    }
+}
+
+// The text of a list of moves, in the first bytes of `text`, and how many they are.
+#[no_mangle]
+pub extern "C" fn tsunghawi_scramble_to_str(list: &[u8], text: &mut [u8], count: &mut usize) -> u8
+    ensures { λ r. ⌜ r ≡ writtenNumber (writtenText (now (list .entry)) (textOf (now (list .entry))) (now (text .entry))) ⌝ }
+    ensures { λ r. ⌜ now (text .exit) ≡ writtenRoom (now (list .entry)) (textOf (now (list .entry))) (now (text .entry)) ⌝ }
+    ensures { λ r. ⌜ now (count .exit) ≡ writtenCount (writtenText (now (list .entry)) (textOf (now (list .entry))) (now (text .entry))) (now (count .entry)) ⌝ }
+{
+    let written = scramble::scramble_to_str(list, text);
+    match written {
+        Written::Refused(n) => n,
+        Written::Bytes(k) => {
+            *count = k;
+            0
+        }
+    }
 }
