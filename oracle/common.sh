@@ -28,6 +28,7 @@ build_oracle() {
 # build_driver: proves the product's library, or takes the one in UNIT_LIB, and links the driver with it.
 build_driver() {
     need cargo "the driver is built with Rust's cargo"
+    need nm "it says which functions the library has"
     if [ -z "${UNIT_LIB:-}" ]; then
         need rt "the product's library is made by 'rt staticlib unit'"
         (cd "$ROOT" && rt staticlib unit) >&2 || die "rt staticlib unit failed"

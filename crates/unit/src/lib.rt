@@ -8,12 +8,13 @@ ghost use Rattle.cubie.specs.Moves.{isInverse, isSameLayer, isAvailable};
 ghost use Rattle.scramble.specs.Answers.{parsedText, parsedRoom, writtenText, writtenRoom};
 ghost use Rattle.scramble.specs.Text.{textOf};
 ghost use Rattle.unit.specs.Text.{parsedNumber, parsedCount, writtenNumber, writtenCount};
+ghost use Rattle.unit.specs.Judge.{judgeNumber, judgeRoom, judgeCount};
 use cubie::inner;
 use cubie::moves;
 use scramble::Parsed;
 use scramble::Written;
 
-mod bytes;
+mod lent;
 
 // The product of two cubes of 40 bytes each: cp 8, co 8, ep 12, eo 12.
 #[no_mangle]
@@ -29,7 +30,7 @@ pub extern "C" fn tsunghawi_mul(a: &[u8], b: &[u8], out: &mut [u8]) -> u8
     if out.len() != 40 {
         return 10;
     }
-    bytes::leave_cube(bytes::cube_of(a).mul(bytes::cube_of(b)), out)
+    lent::leave_cube(lent::cube_of(a).mul(lent::cube_of(b)), out)
 }
 
 // The cube after one move.
@@ -43,7 +44,7 @@ pub extern "C" fn tsunghawi_apply_move(cube: &[u8], m: u8, out: &mut [u8]) -> u8
     if out.len() != 40 {
         return 10;
     }
-    bytes::leave_cube(bytes::cube_of(cube).apply_move(m), out)
+    lent::leave_cube(lent::cube_of(cube).apply_move(m), out)
 }
 
 // The cube after a list of moves, a byte each.
@@ -57,7 +58,7 @@ pub extern "C" fn tsunghawi_apply_moves(cube: &[u8], moves: &[u8], out: &mut [u8
     if out.len() != 40 {
         return 10;
     }
-    bytes::leave_cube(bytes::cube_of(cube).apply_moves(moves), out)
+    lent::leave_cube(lent::cube_of(cube).apply_moves(moves), out)
 }
 
 // Whether a cube is solved: one byte, 1 or 0.
@@ -71,7 +72,7 @@ pub extern "C" fn tsunghawi_is_solved(cube: &[u8], out: &mut [u8]) -> u8
     if out.len() != 1 {
         return 10;
     }
-    bytes::leave_answer(bytes::cube_of(cube).is_solved(), out)
+    lent::leave_answer(lent::cube_of(cube).is_solved(), out)
 }
 
 // Whether a cube is solvable: one byte, 1 or 0.
@@ -85,7 +86,7 @@ pub extern "C" fn tsunghawi_is_solvable(cube: &[u8], out: &mut [u8]) -> u8
     if out.len() != 1 {
         return 10;
     }
-    bytes::leave_answer(bytes::cube_of(cube).is_solvable(), out)
+    lent::leave_answer(lent::cube_of(cube).is_solvable(), out)
 }
 
 // The four counts, a byte each: corner twists, edge flips, corner swaps, edge swaps.
@@ -99,7 +100,7 @@ pub extern "C" fn tsunghawi_counts(cube: &[u8], out: &mut [u8]) -> u8
     if out.len() != 4 {
         return 10;
     }
-    let c = bytes::cube_of(cube);
+    let c = lent::cube_of(cube);
     let refusal = inner::refusal(c);
     if refusal != 0 {
         return refusal;
@@ -119,7 +120,7 @@ pub extern "C" fn tsunghawi_get_inverse(m: u8, out: &mut [u8]) -> u8
     if out.len() != 1 {
         return 10;
     }
-    bytes::leave_number(moves::get_inverse(m), out)
+    lent::leave_number(moves::get_inverse(m), out)
 }
 
 #[no_mangle]
@@ -129,7 +130,7 @@ pub extern "C" fn tsunghawi_is_inverse(m: u8, other: u8, out: &mut [u8]) -> u8
     if out.len() != 1 {
         return 10;
     }
-    bytes::leave_answer(moves::is_inverse(m, other), out)
+    lent::leave_answer(moves::is_inverse(m, other), out)
 }
 
 #[no_mangle]
@@ -139,7 +140,7 @@ pub extern "C" fn tsunghawi_is_same_layer(m: u8, other: u8, out: &mut [u8]) -> u
     if out.len() != 1 {
         return 10;
     }
-    bytes::leave_answer(moves::is_same_layer(m, other), out)
+    lent::leave_answer(moves::is_same_layer(m, other), out)
 }
 
 // Whether `current` may follow `prev`: one byte, 1 or 0.
@@ -150,7 +151,7 @@ pub extern "C" fn tsunghawi_is_move_available(prev: u8, current: u8, out: &mut [
     if out.len() != 1 {
         return 10;
     }
-    bytes::leave_answer(moves::is_move_available(prev, current), out)
+    lent::leave_answer(moves::is_move_available(prev, current), out)
 }
 
 // The cube that 54 stickers are read as, as kewb reads: what matches no piece is taken for the solved one.
@@ -161,7 +162,7 @@ pub extern "C" fn tsunghawi_read_plain(stickers: &[u8], out: &mut [u8]) -> u8
     if out.len() != 40 {
         return 10;
     }
-    bytes::leave_cube(facelet::read_plain(stickers), out)
+    lent::leave_cube(facelet::read_plain(stickers), out)
 }
 
 // The cube whose picture the 54 stickers are, and no other.
@@ -172,7 +173,7 @@ pub extern "C" fn tsunghawi_read_strict(stickers: &[u8], out: &mut [u8]) -> u8
     if out.len() != 40 {
         return 10;
     }
-    bytes::leave_cube(facelet::read_strict(stickers), out)
+    lent::leave_cube(facelet::read_strict(stickers), out)
 }
 
 // The 54 stickers of a cube.
@@ -186,7 +187,7 @@ pub extern "C" fn tsunghawi_picture(cube: &[u8], out: &mut [u8]) -> u8
     if out.len() != 54 {
         return 10;
     }
-    bytes::leave_face(facelet::picture(bytes::cube_of(cube)), out)
+    lent::leave_face(facelet::picture(lent::cube_of(cube)), out)
 }
 
 // The moves of a text, in the first places of `list`, and how many they are.
@@ -221,4 +222,21 @@ pub extern "C" fn tsunghawi_scramble_to_str(list: &[u8], text: &mut [u8], count:
             0
         }
     }
+}
+
+// Whether moves solve a cube: what the program `judge` prints for `input`, in the first of 64 bytes, and how many they are.
+#[no_mangle]
+pub extern "C" fn tsunghawi_judge(input: &[u8], out: &mut [u8], count: &mut usize) -> u8
+    ensures { λ r. ⌜ r ≡ judgeNumber (now (out .entry)) ⌝ }
+    ensures { λ r. ⌜ now (out .exit) ≡ judgeRoom (now (input .entry)) (now (out .entry)) ⌝ }
+    ensures { λ r. ⌜ now (count .exit) ≡ judgeCount (now (input .entry)) (now (out .entry)) (now (count .entry)) ⌝ }
+{
+    if out.len() != 64 {
+        return 10;
+    }
+    let said = judgement::judge(input);
+    let text = said.text;
+    inner::copy_in(&text, out, 0);
+    *count = said.len;
+    0
 }

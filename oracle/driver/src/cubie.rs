@@ -1,31 +1,7 @@
 //! Step "cubie": cubes, products, moves, solvability, counts, and moves by themselves.
-use crate::ffi::{self, Outcome};
-use wire::{answer, join, Args, Cube};
-
-/// An answer line; `changed` where the call touched memory that it must not touch.
-fn line<const N: usize>(outcome: Outcome<N>, say: impl Fn([u8; N]) -> String) -> Option<String> {
-    Some(match outcome {
-        Outcome::Done(bytes) => answer(Ok(say(bytes))),
-        Outcome::Refused(number) => answer(Err(number)),
-        Outcome::Changed => "changed".to_string(),
-    })
-}
-
-fn cube_line(outcome: Outcome<40>) -> Option<String> {
-    line(outcome, |cube| join(&cube))
-}
-
-fn number_line(outcome: Outcome<1>) -> Option<String> {
-    line(outcome, |[n]| n.to_string())
-}
-
-/// 1 is yes, 0 is no; another byte is shown as it is, and agrees with nothing.
-fn yes_line(outcome: Outcome<1>) -> Option<String> {
-    line(outcome, |[n]| match n {
-        0 | 1 => wire::yes(n == 1),
-        other => other.to_string(),
-    })
-}
+use crate::ffi;
+use crate::lines::{cube_line, line, number_line, yes_line};
+use wire::{Args, Cube};
 
 pub fn solvable(args: &Args) -> Option<String> {
     yes_line(ffi::is_solvable(&args.cube(0)?))

@@ -1,6 +1,5 @@
 //! The product's C interface and safe calls of it. Every function gives the paper's refusal number, 0 for none.
-use std::mem::offset_of;
-use std::ptr;
+use crate::lent::{lend, lend_list, Outcome};
 use wire::Cube;
 
 extern "C" {
@@ -21,81 +20,80 @@ extern "C" {
     fn tsunghawi_is_inverse(a: u8, b: u8, out: *mut u8, out_len: usize) -> u8;
     fn tsunghawi_is_same_layer(a: u8, b: u8, out: *mut u8, out_len: usize) -> u8;
     fn tsunghawi_is_move_available(prev: u8, current: u8, out: *mut u8, out_len: usize) -> u8;
+    fn tsunghawi_read_plain(stickers: *const u8, stickers_len: usize, out: *mut u8, out_len: usize) -> u8;
+    fn tsunghawi_read_strict(stickers: *const u8, stickers_len: usize, out: *mut u8, out_len: usize) -> u8;
+    fn tsunghawi_picture(cube: *const u8, cube_len: usize, out: *mut u8, out_len: usize) -> u8;
+    fn tsunghawi_scramble_from_str(t: *const u8, t_len: usize, out: *mut u8, room: usize, count: *mut usize) -> u8;
+    fn tsunghawi_scramble_to_str(list: *const u8, list_len: usize, out: *mut u8, room: usize, count: *mut usize) -> u8;
+    fn tsunghawi_judge(input: *const u8, input_len: usize, out: *mut u8, out_len: usize, count: *mut usize) -> u8;
 }
 
-/// What a call gave.
-pub enum Outcome<const N: usize> {
-    Done([u8; N]),
-    Refused(u8),
-    /// It wrote beside what was lent, or wrote and refused.
-    Changed,
-}
+// SAFETY of every call below: pointers and lengths are those of live slices, and the lenders give memory of that length.
 
-/// What lent memory holds before a call.
-const UNTOUCHED: u8 = 0xEE;
-
-/// Lent memory between bytes that no call may touch.
-#[repr(C)]
-struct Room<const N: usize> {
-    before: [u8; 16],
-    lent: [u8; N],
-    after: [u8; 16],
-}
-
-/// Lends N bytes to a call and looks at all of them afterwards.
-fn lend<const N: usize>(call: impl FnOnce(*mut u8, usize) -> u8) -> Outcome<N> {
-    let side = [UNTOUCHED; 16];
-    let mut room = Room { before: side, lent: [UNTOUCHED; N], after: side };
-    let start = ptr::from_mut(&mut room).cast::<u8>();
-    let number = call(start.wrapping_add(offset_of!(Room<N>, lent)), N);
-    let beside = room.before != side || room.after != side;
-    match number {
-        _ if beside => Outcome::Changed,
-        0 => Outcome::Done(room.lent),
-        _ if room.lent != [UNTOUCHED; N] => Outcome::Changed,
-        n => Outcome::Refused(n),
-    }
-}
-
-// SAFETY of every call below: pointers and lengths are those of live slices, and `lend` gives memory of that length.
-
-pub fn mul(a: &Cube, b: &Cube) -> Outcome<40> {
+pub fn mul(a: &Cube, b: &Cube) -> Outcome<Cube> {
     lend(|out, n| unsafe { tsunghawi_mul(a.as_ptr(), a.len(), b.as_ptr(), b.len(), out, n) })
 }
 
-pub fn apply_move(cube: &Cube, m: u8) -> Outcome<40> {
+pub fn apply_move(cube: &Cube, m: u8) -> Outcome<Cube> {
     lend(|out, n| unsafe { tsunghawi_apply_move(cube.as_ptr(), cube.len(), m, out, n) })
 }
 
-pub fn apply_moves(cube: &Cube, moves: &[u8]) -> Outcome<40> {
+pub fn apply_moves(cube: &Cube, moves: &[u8]) -> Outcome<Cube> {
     lend(|out, n| unsafe { tsunghawi_apply_moves(cube.as_ptr(), cube.len(), moves.as_ptr(), moves.len(), out, n) })
 }
 
-pub fn is_solved(cube: &Cube) -> Outcome<1> {
+pub fn is_solved(cube: &Cube) -> Outcome<[u8; 1]> {
     lend(|out, n| unsafe { tsunghawi_is_solved(cube.as_ptr(), cube.len(), out, n) })
 }
 
-pub fn is_solvable(cube: &Cube) -> Outcome<1> {
+pub fn is_solvable(cube: &Cube) -> Outcome<[u8; 1]> {
     lend(|out, n| unsafe { tsunghawi_is_solvable(cube.as_ptr(), cube.len(), out, n) })
 }
 
 /// Corner twists, edge twists, corner swaps, edge swaps.
-pub fn counts(cube: &Cube) -> Outcome<4> {
+pub fn counts(cube: &Cube) -> Outcome<[u8; 4]> {
     lend(|out, n| unsafe { tsunghawi_counts(cube.as_ptr(), cube.len(), out, n) })
 }
 
-pub fn get_inverse(m: u8) -> Outcome<1> {
+pub fn get_inverse(m: u8) -> Outcome<[u8; 1]> {
     lend(|out, n| unsafe { tsunghawi_get_inverse(m, out, n) })
 }
 
-pub fn is_inverse(a: u8, b: u8) -> Outcome<1> {
+pub fn is_inverse(a: u8, b: u8) -> Outcome<[u8; 1]> {
     lend(|out, n| unsafe { tsunghawi_is_inverse(a, b, out, n) })
 }
 
-pub fn is_same_layer(a: u8, b: u8) -> Outcome<1> {
+pub fn is_same_layer(a: u8, b: u8) -> Outcome<[u8; 1]> {
     lend(|out, n| unsafe { tsunghawi_is_same_layer(a, b, out, n) })
 }
 
-pub fn is_move_available(prev: u8, current: u8) -> Outcome<1> {
+pub fn is_move_available(prev: u8, current: u8) -> Outcome<[u8; 1]> {
     lend(|out, n| unsafe { tsunghawi_is_move_available(prev, current, out, n) })
+}
+
+pub fn read_plain(stickers: &[u8]) -> Outcome<Cube> {
+    lend(|out, n| unsafe { tsunghawi_read_plain(stickers.as_ptr(), stickers.len(), out, n) })
+}
+
+pub fn read_strict(stickers: &[u8]) -> Outcome<Cube> {
+    lend(|out, n| unsafe { tsunghawi_read_strict(stickers.as_ptr(), stickers.len(), out, n) })
+}
+
+pub fn picture(cube: &Cube) -> Outcome<[u8; 54]> {
+    lend(|out, n| unsafe { tsunghawi_picture(cube.as_ptr(), cube.len(), out, n) })
+}
+
+/// The moves of a text, with room for so many.
+pub fn scramble_from_str(text: &[u8], room: usize) -> Outcome<Vec<u8>> {
+    lend_list(room, |out, n, count| unsafe { tsunghawi_scramble_from_str(text.as_ptr(), text.len(), out, n, count) })
+}
+
+/// The text of a list of moves, with room for so many bytes.
+pub fn scramble_to_str(moves: &[u8], room: usize) -> Outcome<Vec<u8>> {
+    lend_list(room, |out, n, count| unsafe { tsunghawi_scramble_to_str(moves.as_ptr(), moves.len(), out, n, count) })
+}
+
+/// What the program prints, a refusal too.
+pub fn judge(input: &[u8]) -> Outcome<Vec<u8>> {
+    lend_list(64, |out, n, count| unsafe { tsunghawi_judge(input.as_ptr(), input.len(), out, n, count) })
 }

@@ -1,7 +1,11 @@
 //! driver: the product's answers to the line protocol, through its static library.
 mod cubie;
 mod ffi;
+mod lent;
+mod lines;
 mod protocol;
+mod stickers;
+mod text;
 
 fn main() -> std::io::Result<()> {
     wire::serve(protocol::handle)

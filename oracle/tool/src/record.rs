@@ -1,55 +1,135 @@
 //! A request with its answer as one line of hex, for the programs that replay answers with no kewb at hand.
+use crate::cubes::{raw, solved};
+use crate::readers::solved_picture;
+use crate::requests::{cubie, stickers, text, Ask};
 use wire::Args;
 
-/// The kinds of record: the request's name and the length of what is written. The first is kind 1.
-const KINDS: [(&str, usize); 10] = [
-    ("mul", 40),
-    ("move", 40),
-    ("moves", 40),
-    ("solved", 1),
-    ("solvable", 1),
-    ("counts", 4),
-    ("inverse", 1),
-    ("isinverse", 1),
-    ("samelayer", 1),
-    ("available", 1),
-];
-
-/// What the lent bytes hold before a call, and after a refusal.
-const UNTOUCHED: u8 = 0xEE;
-
-/// The record of a request and its answer; None where there is no such record.
-pub fn line(request: &str, answer: &str) -> Option<String> {
-    let (name, rest) = request.split_once(' ')?;
-    let kind = KINDS.iter().position(|(n, _)| *n == name)?;
-    let args = Args::of(rest);
-    let (number, out) = result(answer, KINDS[kind].1)?;
-    let part = |i| args.list(i).unwrap_or_default();
-    Some(hex(kind as u8 + 1, &part(0), &part(1), number, &out))
+/// What is recorded together.
+pub struct Record {
+    pub name: &'static str,
+    /// The requests to record, by seed; a line that starts with # is a comment.
+    pub sample: fn(u64, Ask),
+    /// The number of its first kind.
+    first: u8,
+    kinds: &'static [(&'static str, Lent)],
 }
 
-/// Lent slices of another length than is asked for, one byte short and one too long: the paper's 10, which no request can ask for.
-pub fn misfits() -> Vec<String> {
-    let mut lines = vec![];
-    for (kind, (name, length)) in KINDS.iter().enumerate() {
-        let kind = kind as u8 + 1;
-        let on_cube = !matches!(*name, "inverse" | "isinverse" | "samelayer" | "available");
-        let a = if on_cube { vec![0; 40] } else { vec![0] };
-        let b = match *name {
-            "mul" => vec![0; 40],
-            "move" | "isinverse" | "samelayer" | "available" => vec![0],
-            _ => vec![],
-        };
-        if on_cube {
-            lines.push(hex(kind, &a[1..], &b, 10, &vec![UNTOUCHED; *length]));
-        }
-        if *name == "mul" {
-            lines.push(hex(kind, &a, &b[1..], 10, &vec![UNTOUCHED; *length]));
-        }
-        lines.push(hex(kind, &a, &b, 10, &vec![UNTOUCHED; length - 1]));
-        lines.push(hex(kind, &a, &b, 10, &vec![UNTOUCHED; length + 1]));
+/// What a call lends to be written.
+#[derive(Clone, Copy)]
+enum Lent {
+    /// So many bytes.
+    Bytes(usize),
+    /// As many as the request says, and a count.
+    Room,
+}
+
+pub const RECORDS: [Record; 3] = [
+    Record { name: "cubie", sample: cubie::sample, first: 1, kinds: &CUBIE },
+    Record { name: "facelet", sample: stickers::sample, first: 11, kinds: &FACELET },
+    Record { name: "scramble", sample: text::sample, first: 14, kinds: &SCRAMBLE },
+];
+
+const CUBIE: [(&str, Lent); 10] = [
+    ("mul", Lent::Bytes(40)),
+    ("move", Lent::Bytes(40)),
+    ("moves", Lent::Bytes(40)),
+    ("solved", Lent::Bytes(1)),
+    ("solvable", Lent::Bytes(1)),
+    ("counts", Lent::Bytes(4)),
+    ("inverse", Lent::Bytes(1)),
+    ("isinverse", Lent::Bytes(1)),
+    ("samelayer", Lent::Bytes(1)),
+    ("available", Lent::Bytes(1)),
+];
+const FACELET: [(&str, Lent); 3] =
+    [("read", Lent::Bytes(40)), ("strict", Lent::Bytes(40)), ("picture", Lent::Bytes(54))];
+const SCRAMBLE: [(&str, Lent); 2] = [("parse", Lent::Room), ("text", Lent::Room)];
+
+/// What lent bytes hold before a call, and after a refusal.
+const UNTOUCHED: u8 = 0xEE;
+
+impl Record {
+    /// Each kind's number, name and what it lends.
+    fn kinds(&self) -> impl Iterator<Item = (u8, &'static str, Lent)> {
+        (self.first..).zip(self.kinds).map(|(number, &(name, lent))| (number, name, lent))
     }
+
+    /// The comment that says which kinds there are.
+    pub fn legend(&self) -> String {
+        let kinds: Vec<String> = self.kinds().map(|(number, name, _)| format!("{number} {name}")).collect();
+        format!("# KIND: {}.", kinds.join(", "))
+    }
+
+    /// Whether its calls also give a count.
+    pub fn counts(&self) -> bool {
+        self.kinds().any(|(_, _, lent)| matches!(lent, Lent::Room))
+    }
+
+    /// The line of a request and its answer; None where there is no such record.
+    pub fn line(&self, request: &str, answer: &str) -> Option<String> {
+        let (word, rest) = request.split_once(' ')?;
+        let (kind, name, lent) = self.kinds().find(|(_, name, _)| *name == word)?;
+        let args = Args::of(rest);
+        let (a, b) = given(name, &args)?;
+        let (number, out) = match lent {
+            Lent::Bytes(n) => result(name, answer, n).filter(|(_, out)| out.len() == n)?,
+            Lent::Room => in_room(name, answer, room(name, &args)?)?,
+        };
+        Some(hex(kind, &a, &b, number, &out))
+    }
+
+    /// Lent slices of another length than is asked for, one byte short and one too long: the paper's 10, which no request
+    /// can ask for.
+    pub fn misfits(&self) -> Vec<String> {
+        self.kinds().flat_map(|(kind, name, lent)| misfits(kind, name, lent)).collect()
+    }
+}
+
+fn misfits(kind: u8, name: &str, lent: Lent) -> Vec<String> {
+    let Lent::Bytes(length) = lent else { return vec![] };
+    let (a, b) = fitting(name);
+    let mut lines = vec![];
+    let mut refused = |a: &[u8], b: &[u8], n: usize| lines.push(hex(kind, a, b, 10, &vec![UNTOUCHED; n]));
+    if a.len() == 40 {
+        refused(&a[1..], &b, length);
+    }
+    if b.len() == 40 {
+        refused(&a, &b[1..], length);
+    }
+    refused(&a, &b, length - 1);
+    refused(&a, &b, length + 1);
     lines
+}
+
+/// What a kind can be given.
+fn fitting(name: &str) -> (Vec<u8>, Vec<u8>) {
+    match name {
+        "read" | "strict" => (solved_picture(), vec![]),
+        "picture" => (raw(&solved()).to_vec(), vec![]),
+        "mul" => (vec![0; 40], vec![0; 40]),
+        "move" => (vec![0; 40], vec![0]),
+        "inverse" => (vec![0], vec![]),
+        "isinverse" | "samelayer" | "available" => (vec![0], vec![0]),
+        _ => (vec![0; 40], vec![]),
+    }
+}
+
+/// What a request gives: A and B.
+fn given(name: &str, args: &Args) -> Option<(Vec<u8>, Vec<u8>)> {
+    Some(match name {
+        "read" | "strict" => (args.bytes()?, vec![]),
+        "parse" => (args.number_and_bytes()?.1, vec![]),
+        "text" => (args.list(0)?, vec![]),
+        _ => (args.list(0)?, args.list(1).unwrap_or_default()),
+    })
+}
+
+/// The room that a request says.
+fn room(name: &str, args: &Args) -> Option<usize> {
+    match name {
+        "parse" => Some(args.number_and_bytes()?.0),
+        _ => args.number(1),
+    }
 }
 
 /// KIND, A_LEN, A.., B_LEN, B.., NUMBER, OUT_LEN, OUT.. in hex; a length is two bytes, the higher first.
@@ -65,13 +145,28 @@ fn hex(kind: u8, a: &[u8], b: &[u8], number: u8, out: &[u8]) -> String {
     bytes.iter().map(|b| format!("{b:02x}")).collect()
 }
 
-/// The refusal's number, 0 for none, and the lent bytes after the call.
-fn result(answer: &str, length: usize) -> Option<(u8, Vec<u8>)> {
+/// The refusal's number, 0 for none, and what was written, or so many untouched bytes.
+fn result(name: &str, answer: &str, lent: usize) -> Option<(u8, Vec<u8>)> {
     if let Some(number) = answer.strip_prefix("refused ") {
-        return Some((number.parse().ok()?, vec![UNTOUCHED; length]));
+        return Some((number.parse().ok()?, vec![UNTOUCHED; lent]));
     }
-    let out: Option<Vec<u8>> = answer.strip_prefix("ok ")?.split([' ', ',']).map(value).collect();
-    out.filter(|o| o.len() == length).map(|o| (0, o))
+    let said = answer.strip_prefix("ok ")?;
+    let written = match name {
+        "picture" => Some(said.as_bytes().to_vec()),
+        "text" => Args::of(said).bytes(),
+        "parse" => Args::of(said).list(0),
+        _ => said.split([' ', ',']).map(value).collect(),
+    };
+    Some((0, written?))
+}
+
+/// The same in a lent room, then the count in two bytes, untouched where refused.
+fn in_room(name: &str, answer: &str, room: usize) -> Option<(u8, Vec<u8>)> {
+    let (number, mut out) = result(name, answer, room)?;
+    let count = if number == 0 { out.len() as u16 } else { u16::from_be_bytes([UNTOUCHED; 2]) };
+    out.resize(room, UNTOUCHED);
+    out.extend(count.to_be_bytes());
+    Some((number, out))
 }
 
 fn value(word: &str) -> Option<u8> {

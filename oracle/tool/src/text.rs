@@ -10,6 +10,11 @@ pub fn list_text(v: &[Move]) -> String {
     words.join(" ")
 }
 
+/// The same with room for `room` bytes, else 10.
+pub fn text_into(v: &[Move], room: usize) -> Result<String, u8> {
+    Some(list_text(v)).filter(|text| text.len() <= room).ok_or(10)
+}
+
 fn parse_move(word: &[u8]) -> Result<Move, u8> {
     let word = std::str::from_utf8(word).map_err(|_| 7u8)?;
     Move::from_str(word).map_err(number)
@@ -25,11 +30,7 @@ pub fn parse(b: &[u8]) -> Result<Vec<Move>, u8> {
 
 /// The same with room for `room` moves, else 10.
 pub fn parse_into(b: &[u8], room: usize) -> Result<Vec<Move>, u8> {
-    let list = parse(b)?;
-    if list.len() > room {
-        return Err(10);
-    }
-    Ok(list)
+    Some(parse(b)?).filter(|list| list.len() <= room).ok_or(10)
 }
 
 /// What the paper's program prints, lines joined by `|`.

@@ -25,6 +25,11 @@ impl<'a> Args<'a> {
         self.word(i)?.parse().ok()
     }
 
+    /// A number that may be left out.
+    pub fn number_or<T: FromStr>(&self, i: usize, otherwise: T) -> Option<T> {
+        self.word(i).map_or(Some(otherwise), |word| word.parse().ok())
+    }
+
     /// Numbers with commas, `-` for none.
     pub fn list(&self, i: usize) -> Option<Vec<u8>> {
         match self.word(i)? {

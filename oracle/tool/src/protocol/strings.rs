@@ -17,8 +17,9 @@ pub fn picture(args: &Args) -> Option<String> {
 }
 
 pub fn text(args: &Args) -> Option<String> {
-    let list = move_list(&args.list(0)?);
-    Some(answer(list.map(|l| bytes_text(text::list_text(&l).as_bytes()))))
+    let (list, room) = (move_list(&args.list(0)?), args.number_or(1, usize::MAX)?);
+    let text = list.and_then(|l| text::text_into(&l, room));
+    Some(answer(text.map(|t| bytes_text(t.as_bytes()))))
 }
 
 pub fn parse(args: &Args) -> Option<String> {

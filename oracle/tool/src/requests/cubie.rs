@@ -1,9 +1,8 @@
 //! Step "cubie": cubes, products, moves, solvability, counts, and moves by themselves.
-use super::Ask;
+use super::{different, Ask, Class};
 use crate::cubes::{cube_text, raw, solved, DECLARED};
 use crate::make::*;
 use crate::rng::Rng;
-use std::collections::HashSet;
 use wire::{join, Cube};
 
 const OF_TWO: [&str; 3] = ["isinverse", "samelayer", "available"];
@@ -17,8 +16,12 @@ pub fn compare(seed: u64, factor: u64, ask: Ask) -> usize {
     every_move(g, ask);
     short_lists(ask);
     bad_lists(g, ask);
-    one_number_off(g, ask);
-    random(g, 1000 * factor, ask)
+    of_cube(&raw(&solved()), ask);
+    for cube in one_number_off() {
+        of_cube(&cube, ask);
+        ask(format!("move {} {}", join(&cube), g.below(18)));
+    }
+    different(g, &CLASSES, 1000 * factor, &mut |g, cube| of_random(g, cube, ask))
 }
 
 /// The sample to record: what is small whole, of the rest a little of everything.
@@ -111,24 +114,21 @@ fn bad_lists(g: &mut Rng, ask: Ask) {
     }
 }
 
-/// The solved cube and every cube that differs from it in one number.
-fn one_number_off(g: &mut Rng, ask: Ask) {
+/// Every cube that differs from the solved one in one number.
+pub fn one_number_off() -> impl Iterator<Item = Cube> {
     let start = raw(&solved());
-    of_cube(&start, ask);
-    for place in 0..40 {
-        for number in (0..=255).filter(|&n| n != start[place]) {
+    let numbers = move |place: usize| (0..=255).filter(move |&n| n != start[place]);
+    (0..40).flat_map(move |place| {
+        numbers(place).map(move |number| {
             let mut cube = start;
             cube[place] = number;
-            of_cube(&cube, ask);
-            ask(format!("move {} {}", join(&cube), g.below(18)));
-        }
-    }
+            cube
+        })
+    })
 }
 
-/// A way to make cubes, and how many of 120 cubes are made so.
-type Class = (u64, fn(&mut Rng) -> Cube);
-
-const CLASSES: [Class; 10] = [
+/// Cubes of every sort, of 120.
+pub const CLASSES: [Class<Cube>; 10] = [
     (30, |g| raw(&some_cube(g))),
     (10, parity_cube),
     (10, twist_cube),
@@ -145,21 +145,7 @@ const CLASSES: [Class; 10] = [
     (10, bad_cube),
 ];
 
-/// 120 times n different cubes, each asked about in every way; of each three, one in a product and one with a list.
-fn random(g: &mut Rng, n: u64, ask: Ask) -> usize {
-    let mut met = HashSet::new();
-    for (share, make) in CLASSES {
-        let until = met.len() + (share * n) as usize;
-        while met.len() < until {
-            let cube = make(g);
-            if met.insert(cube) {
-                of_random(g, &cube, ask);
-            }
-        }
-    }
-    met.len()
-}
-
+/// A cube asked about in every way; of each three, one in a product and one with a list.
 fn of_random(g: &mut Rng, cube: &Cube, ask: Ask) {
     of_cube(cube, ask);
     ask(format!("move {} {}", join(cube), any_list(g, 1, 12)[0]));

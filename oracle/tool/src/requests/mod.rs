@@ -1,24 +1,48 @@
-//! The requests of each step's comparison, and the sample of them that is recorded.
-mod cubie;
+//! The requests of each step's comparison, and the samples of them that are recorded.
+pub mod cubie;
+pub mod stickers;
+pub mod text;
+
+use crate::rng::Rng;
+use std::collections::HashSet;
+use std::hash::Hash;
 
 /// Where requests go, one at a time.
 pub type Ask<'a> = &'a mut dyn FnMut(String);
 
-/// What a step has.
+/// What a step's comparison asks.
 pub struct Step {
     pub name: &'static str,
-    /// All requests of the comparison, by seed and factor; gives the number of different random cubes.
+    /// All its requests, by seed and factor; gives how many different random things they are about.
     pub compare: fn(u64, u64, Ask) -> usize,
-    /// The sample to record, by seed.
-    pub sample: fn(u64, Ask),
+    pub things: &'static str,
 }
 
-const STEPS: [Step; 1] = [Step { name: "cubie", compare: cubie::compare, sample: cubie::sample }];
+pub const STEPS: [Step; 3] = [
+    Step { name: "cubie", compare: cubie::compare, things: "cubes" },
+    Step { name: "stickers", compare: stickers::compare, things: "sticker strings and cubes" },
+    Step { name: "text", compare: text::compare, things: "texts, lists and inputs" },
+];
 
-/// The step of a name; says which there are where there is none.
-pub fn step(name: &str) -> &'static Step {
-    STEPS.iter().find(|s| s.name == name).unwrap_or_else(|| {
-        eprintln!("no step {name}; there are: {}", STEPS.map(|s| s.name).join(" "));
-        std::process::exit(2)
-    })
+/// A way to make something, and its share.
+pub type Class<T> = (u64, fn(&mut Rng) -> T);
+
+/// n times each class's share, none twice; gives how many in all.
+fn different<T: Clone + Eq + Hash>(
+    g: &mut Rng,
+    classes: &[Class<T>],
+    n: u64,
+    each: &mut dyn FnMut(&mut Rng, &T),
+) -> usize {
+    let mut met = HashSet::new();
+    for (share, make) in classes {
+        let until = met.len() + (share * n) as usize;
+        while met.len() < until {
+            let one = make(g);
+            if met.insert(one.clone()) {
+                each(g, &one);
+            }
+        }
+    }
+    met.len()
 }

@@ -1,0 +1,2 @@
+// What the programs replay_* run.
+pub mod inner;

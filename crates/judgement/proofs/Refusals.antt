@@ -1,0 +1,58 @@
+-- Which score there is. Assumes nothing.
+use mathlib.Core.Path.{_≡_, refl, sym, ap, _∙_}
+use mathlib.Core.Bool.{Bool, true, false}
+use mathlib.Core.List.{List, [], _∷_, _++_}
+use Prim.Native.Nat.{ℕ, _+_, _≤_, _<_}
+use native.Mathlib.Omega.{arith}
+use lib.Dec.{eqb, leb}
+use lib.ListN.{length, take, drop}
+use lib.Seq.{take-append-seam, take-length}
+use borrow.Author.Tests.{eq-eqb, ne-eqb, eqb-true, leb-true}
+use Rattle.base.specs.Lists.{pick, inRange, Under}
+use Rattle.base.proofs.Tests.{inRange-under}
+use Rattle.cubie.specs.Answers.{cubed, refusalWith}
+use Rattle.cubie.specs.declared.CubieCube.{CubieCube}
+use Rattle.cubie.specs.declared.Verdict.the-variants as verdict
+use Rattle.scramble.specs.Answers.{over, refusal, parsedAs, parsedText, parsedRoom, roomAfter}
+use Rattle.scramble.specs.Text.{parse}
+use Rattle.scramble.specs.declared.Parsed.the-variants.{Moves, Refused}
+use Rattle.judgement.specs.Judge.{textRefusal}
+
+-- the number of a cube's refusal
+pub cube-refused : (n k : ℕ) (c : CubieCube) → cubed n c .verdict ≡ verdict.Refused k → (eqb n 0 ≡ false) × (k ≡ n)
+cube-refused n k c h = go (eqb n 0) h
+  where
+    go : (p : Bool) → pick p (record { verdict = verdict.Good; cube = c }) (refusalWith n) .verdict ≡ verdict.Refused k → (p ≡ false) × (k ≡ n)
+    go true e = let f : _≡_ {A = ℕ} 0 1 = cc in (cc, cc)
+    go false e = (refl, cc)
+
+-- what the room of 255 moves tells of a text
+same-refusal : (t room : List ℕ) → length room ≡ 255 → refusal (parse t) (parse t) room ≡ textRefusal t
+unfolding refusal textRefusal
+same-refusal t room e = rw e
+
+pub text-refused : (t room : List ℕ) (n : ℕ) → length room ≡ 255 → parsedText t room ≡ Refused n → (eqb (textRefusal t) 0 ≡ false) × (n ≡ textRefusal t)
+unfolding parsedAs
+text-refused t room n l h =
+    let e : parsedAs (textRefusal t) (length (parse t)) ≡ Refused n = sym (ap (λ (k : ℕ). parsedAs k (length (parse t))) (same-refusal t room l)) ∙ h in
+    go (eqb (textRefusal t) 0) e
+  where
+    go : (p : Bool) → pick p (Moves (length (parse t))) (Refused (textRefusal t)) ≡ Refused n → (p ≡ false) × (n ≡ textRefusal t)
+    go true e = let f : _≡_ {A = ℕ} 0 1 = cc in (cc, cc)
+    go false e = (refl, cc)
+
+pub text-taken : (t room : List ℕ) (n : ℕ) → length room ≡ 255 → parsedText t room ≡ Moves n → (eqb (textRefusal t) 0 ≡ true) × (n ≡ length (parse t)) × (parsedRoom t room ≡ over room 0 (parse t)) × (length (parse t) ≤ 255) × Under 18 (parse t)
+unfolding parsedAs textRefusal roomAfter refusal
+text-taken t room n l h = go (inRange 18 (parse t)) (leb (length (parse t)) (length room)) refl refl h
+  where
+    go : (a b : Bool) → inRange 18 (parse t) ≡ a → leb (length (parse t)) (length room) ≡ b → parsedAs (pick a (pick b 0 10) 7) (length (parse t)) ≡ Moves n
+        → (eqb (pick (inRange 18 (parse t)) (pick (leb (length (parse t)) 255) 0 10) 7) 0 ≡ true) × (n ≡ length (parse t)) × (roomAfter (pick (inRange 18 (parse t)) (pick (leb (length (parse t)) (length room)) 0 10) 7) (parse t) room ≡ over room 0 (parse t)) × (length (parse t) ≤ 255) × Under 18 (parse t)
+    go true true x y e =
+        let z : leb (length (parse t)) 255 ≡ true = rw l at y in
+        (rw (x, z), cc, rw (x, y), leb-true (length (parse t)) 255 z, inRange-under 18 (parse t) x)
+    go true false x y e = let f : _≡_ {A = ℕ} 0 1 = cc in absurd (omega arith)
+    go false b x y e = let f : _≡_ {A = ℕ} 0 1 = cc in absurd (omega arith)
+
+-- the first places of the room are the list
+pub first-places : (d l : List ℕ) (n : ℕ) → n ≡ length l → take n (over d 0 l) ≡ l
+first-places d l n e = ap (λ (k : ℕ). take k (over d 0 l)) e ∙ ap (λ (m : List ℕ). take (length l) (m ++ drop (0 + length l) d)) (take-length l) ∙ take-append-seam l (drop (0 + length l) d)

@@ -1,0 +1,114 @@
+-- `judgement::inner::score` meets its contract. Assumes nothing.
+use mathlib.Core.Path.{_≡_, refl, sym, ap, _∙_}
+use mathlib.Core.List.{List}
+use Prim.Native.Nat.{ℕ, _+_, _-_}
+use native.Mathlib.Omega.{arith}
+use denote.Ref.{now}
+use lib.ListN.{length, take, drop}
+use lib.Seq.{length-take-le}
+use borrow.Author.Tests.{le-leb, lt-leb, eq-eqb}
+use Rattle.bytes.specs.Bytes.{indexOf}
+use Rattle.cubie.specs.declared.CubeAnswer.{CubeAnswer}
+use Rattle.cubie.specs.declared.CubieCube.{CubieCube}
+use Rattle.cubie.specs.Cube.{InRange}
+use Rattle.cubie.proofs.Answers.{was-good, good-cube}
+use Rattle.facelet.specs.Reader.{cubeRead, strictRefusal, readStrict}
+use Rattle.facelet.proofs.Ranges.{read-range}
+use Rattle.judgement.specs.Judge.{stickerLine, closed, scoreMoves, scoreLines, scored}
+use Rattle.judgement.proofs.Lines.{found, to-the-end}
+use Rattle.judgement.proofs.Refusals.{cube-refused}
+use borrow.Author.Needs.{needs}
+use Rattle.judgement.proofs.inner.score.Statement.{statement}
+use Rattle.judgement.proofs.inner.score.Tie as tie
+
+refused-requires : tie.Need-refused-requires
+refused-requires c κs = search needs
+
+returns : tie.Need-returns
+unfolding scored
+returns c = c .refused .ensures ∙ rw (lt-leb (length (now (c .before .before .before .args .input))) 1024 (c .before .if1 .taken))
+
+find-requires : tie.Need-find-requires
+find-requires c κs = search needs
+
+slice-aggregate-read-strict : tie.Need-slice-aggregate-read-strict
+slice-aggregate-read-strict c = sym (length-take-le (c .before .find .result) (now (c .before .before .before .before .args .input)) (c .before .find .ensures .1))
+
+read-strict-requires : tie.Need-read-strict-requires
+read-strict-requires c κs = search needs
+
+enum-known-verdict : tie.Need-enum-known-verdict
+enum-known-verdict c = search needs
+
+refused-requires-2 : tie.Need-refused-requires-2
+refused-requires-2 c κs = search needs
+
+enum-told : tie.Need-enum-told
+enum-told c = search needs
+
+text-start-requires : tie.Need-text-start-requires
+text-start-requires c κs = search needs
+
+sub-score-text : tie.Need-sub-score-text
+sub-score-text c = search needs
+
+part-score-text-start : tie.Need-part-score-text-start
+part-score-text-start c = search needs
+
+part-score-text-end : tie.Need-part-score-text-end
+part-score-text-end c = search needs
+
+score-text-requires : tie.Need-score-text-requires
+score-text-requires c κs =
+    let s = now (c .before .before .before .before .before .before .before .before .before .before .args .input) in
+    let at : c .before .before .before .before .before .before .before .find .result ≡ indexOf 10 s = c .before .before .before .before .before .before .before .find .ensures .0 ∙ found s in
+    let read : c .before .before .before .before .before .read-strict .result ≡ readStrict (stickerLine s) = c .before .before .before .before .before .read-strict .ensures ∙ ap (λ (k : ℕ). readStrict (take k s)) at in
+    let short = le-leb (length s) 1024 (c .before .before .before .before .before .before .before .before .if1 .left) in
+    let z = was-good (strictRefusal (stickerLine s)) (cubeRead (stickerLine s)) (sym (ap (λ (a : CubeAnswer). a .verdict) read) ∙ c .before .before .before .enum-told .given .1) in
+    let e = ap (λ (a : CubeAnswer). a .cube) read ∙ good-cube (strictRefusal (stickerLine s)) (cubeRead (stickerLine s)) z in
+    rw e (read-range (stickerLine s))
+
+returns-2 : tie.Need-returns-2
+unfolding scored scoreLines
+returns-2 c =
+    let s = now (c .before .before .before .before .before .before .before .before .before .args .input) in
+    let at : c .before .before .before .before .before .before .find .result ≡ indexOf 10 s = c .before .before .before .before .before .before .find .ensures .0 ∙ found s in
+    let read : c .before .before .before .before .read-strict .result ≡ readStrict (stickerLine s) = c .before .before .before .before .read-strict .ensures ∙ ap (λ (k : ℕ). readStrict (take k s)) at in
+    let short = le-leb (length s) 1024 (c .before .before .before .before .before .before .before .if1 .left) in
+    let r = cube-refused (strictRefusal (stickerLine s)) (c .before .before .verdict .given .0 .0) (cubeRead (stickerLine s)) (sym (ap (λ (a : CubeAnswer). a .verdict) read) ∙ c .before .before .verdict .given .1) in
+    c .refused2 .ensures ∙ rw (short, r .0, r .1)
+
+returns-3 : tie.Need-returns-3
+unfolding scored scoreLines
+returns-3 c =
+    let s = now (c .before .before .before .before .before .before .before .before .before .before .before .args .input) in
+    let at : c .before .before .before .before .before .before .before .before .find .result ≡ indexOf 10 s = c .before .before .before .before .before .before .before .before .find .ensures .0 ∙ found s in
+    let read : c .before .before .before .before .before .before .read-strict .result ≡ readStrict (stickerLine s) = c .before .before .before .before .before .before .read-strict .ensures ∙ ap (λ (k : ℕ). readStrict (take k s)) at in
+    let short = le-leb (length s) 1024 (c .before .before .before .before .before .before .before .before .before .if1 .left) in
+    let z = was-good (strictRefusal (stickerLine s)) (cubeRead (stickerLine s)) (sym (ap (λ (a : CubeAnswer). a .verdict) read) ∙ c .before .before .before .before .enum-told .given .1) in
+    let e = ap (λ (a : CubeAnswer). a .cube) read ∙ good-cube (strictRefusal (stickerLine s)) (cubeRead (stickerLine s)) z in
+    let rest : drop (c .before .before .text-start .result) s ≡ drop (indexOf 10 s + 1) s = c .before .before .text-start .ensures .1 ∙ ap (λ (k : ℕ). drop (k + 1) s) at in
+    c .score-text .ensures
+    ∙ ap (λ (d : CubieCube). scoreMoves d (closed (take (length s - c .before .before .text-start .result) (drop (c .before .before .text-start .result) s)))) e
+    ∙ ap (λ (t : List ℕ). scoreMoves (cubeRead (stickerLine s)) (closed t)) (to-the-end s (c .before .before .text-start .result) ∙ rest)
+    ∙ rw (short, eq-eqb (strictRefusal (stickerLine s)) 0 z)
+
+pub score-spec : {M : Type 1} → statement M
+score-spec =
+    tie.close
+    (tie.spec
+    refused-requires
+    returns
+    find-requires
+    slice-aggregate-read-strict
+    read-strict-requires
+    enum-known-verdict
+    refused-requires-2
+    enum-told
+    text-start-requires
+    sub-score-text
+    part-score-text-start
+    part-score-text-end
+    score-text-requires
+    returns-2
+    returns-3)

@@ -1,0 +1,19 @@
+-- `judgement::judge` meets its contract. Assumes nothing.
+use mathlib.Core.Path.{ap, _∙_}
+use Rattle.judgement.specs.Judge.{printedAs, scoreText}
+use Rattle.judgement.specs.declared.Score.{Score}
+use borrow.Author.Needs.{needs}
+use Rattle.judgement.proofs.judge.Statement.{statement}
+use Rattle.judgement.proofs.judge.Tie as tie
+
+score-requires : tie.Need-score-requires
+score-requires c κs = search needs
+
+print-requires : tie.Need-print-requires
+print-requires c κs = search needs
+
+returns : tie.Need-returns
+returns c = c .print .ensures ∙ ap (λ (k : Score). printedAs (scoreText k)) (c .before .score .ensures)
+
+pub judge-spec : {M : Type 1} → statement M
+judge-spec = tie.close (tie.spec score-requires print-requires returns)

@@ -1,0 +1,55 @@
+//! Memory lent to a call, filled before it and looked at after it.
+
+/// What a call gave.
+pub enum Outcome<T> {
+    Done(T),
+    Refused(u8),
+    /// It wrote beside what was lent or after its list, or wrote and refused.
+    Changed,
+}
+
+/// What lent memory holds before a call.
+const UNTOUCHED: u8 = 0xEE;
+const UNCOUNTED: usize = 0xEEEE;
+
+/// How many more bytes, before and after what is lent, no call may touch.
+const SIDE: usize = 16;
+
+/// Lends n bytes to a call and looks at all of them afterwards.
+fn lend_bytes(n: usize, call: impl FnOnce(*mut u8, usize) -> u8) -> Outcome<Vec<u8>> {
+    let mut room = vec![UNTOUCHED; SIDE + n + SIDE];
+    let number = call(room.as_mut_ptr().wrapping_add(SIDE), n);
+    let untouched = |part: &[u8]| part.iter().all(|&b| b == UNTOUCHED);
+    let (before, rest) = room.split_at(SIDE);
+    let (lent, after) = rest.split_at(n);
+    match number {
+        _ if !untouched(before) || !untouched(after) => Outcome::Changed,
+        0 => Outcome::Done(lent.to_vec()),
+        _ if !untouched(lent) => Outcome::Changed,
+        refusal => Outcome::Refused(refusal),
+    }
+}
+
+/// Lends N bytes, all of which are the answer.
+pub fn lend<const N: usize>(call: impl FnOnce(*mut u8, usize) -> u8) -> Outcome<[u8; N]> {
+    match lend_bytes(N, call) {
+        Outcome::Done(lent) => Outcome::Done(lent.try_into().expect("as many as were lent")),
+        Outcome::Refused(number) => Outcome::Refused(number),
+        Outcome::Changed => Outcome::Changed,
+    }
+}
+
+/// Lends n bytes and a count, which says how many of them are the answer; those after must be as they were.
+pub fn lend_list(n: usize, call: impl FnOnce(*mut u8, usize, *mut usize) -> u8) -> Outcome<Vec<u8>> {
+    let mut counts = [UNCOUNTED; 3];
+    let count = counts.as_mut_ptr().wrapping_add(1);
+    let outcome = lend_bytes(n, |out, n| call(out, n, count));
+    let [before, count, after] = counts;
+    match outcome {
+        _ if before != UNCOUNTED || after != UNCOUNTED => Outcome::Changed,
+        Outcome::Done(lent) if count > n || lent[count..].iter().any(|&b| b != UNTOUCHED) => Outcome::Changed,
+        Outcome::Done(lent) => Outcome::Done(lent[..count].to_vec()),
+        Outcome::Refused(_) if count != UNCOUNTED => Outcome::Changed,
+        other => other,
+    }
+}
