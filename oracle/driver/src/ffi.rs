@@ -1,5 +1,5 @@
 //! The product's C interface and safe calls of it. Every function gives the paper's refusal number, 0 for none.
-use crate::lent::{lend, lend_list, Outcome};
+use crate::lent::{lend, lend_list, lend_text, Outcome};
 use wire::Cube;
 
 extern "C" {
@@ -95,5 +95,5 @@ pub fn scramble_to_str(moves: &[u8], room: usize) -> Outcome<Vec<u8>> {
 
 /// What the program prints, a refusal too.
 pub fn judge(input: &[u8]) -> Outcome<Vec<u8>> {
-    lend_list(64, |out, n, count| unsafe { tsunghawi_judge(input.as_ptr(), input.len(), out, n, count) })
+    lend_text(64, |out, n, count| unsafe { tsunghawi_judge(input.as_ptr(), input.len(), out, n, count) })
 }
