@@ -12,8 +12,8 @@ need() { command -v "$1" >/dev/null || die "$1 not found: $2"; }
 
 # build_oracle [KEWB_SRC]: builds kewb and the tool where they or their sources have changed since.
 build_oracle() {
-    local src=${1:-$ROOT/../shared/docs/src} mark
-    [ -d "$src" ] || die "no folder $src: give the folder of kewb 0.4.3's source as the last argument"
+    local src=${1:-${KEWB_SRC:-}} mark
+    [ -d "$src" ] || die "no folder '$src': give the folder of kewb 0.4.3's source as the last argument, or in KEWB_SRC"
     need cargo "the oracle is built with Rust's cargo"
     mark=$( (cd "$ORACLE" && find build.sh tool wire -type f | sort | xargs sha256sum
              cd "$src" && find . -name '*.rs*' -type f | sort | xargs sha256sum) | sha256sum)
