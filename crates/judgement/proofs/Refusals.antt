@@ -16,7 +16,9 @@ use Rattle.cubie.specs.declared.Verdict.the-variants as verdict
 use Rattle.scramble.specs.Answers.{over, refusal, parsedAs, parsedText, parsedRoom, roomAfter}
 use Rattle.scramble.specs.Text.{parse}
 use Rattle.scramble.specs.declared.Parsed.the-variants.{Moves, Refused}
-use Rattle.judgement.specs.Judge.{textRefusal}
+use Rattle.facelet.specs.Reader.{cubeRead, strictRefusal}
+use Rattle.judgement.specs.Judge.{stickerLine, moveLine, refusedScore, scoreOf, textRefusal, scoreMoves, scoreLines, scored}
+use Rattle.judgement.specs.declared.Score.{Score}
 
 -- the number of a cube's refusal
 pub cube-refused : (n k : ℕ) (c : CubieCube) → cubed n c .verdict ≡ verdict.Refused k → (eqb n 0 ≡ false) × (k ≡ n)
@@ -56,3 +58,24 @@ text-taken t room n l h = go (inRange 18 (parse t)) (leb (length (parse t)) (len
 -- the first places of the room are the list
 pub first-places : (d l : List ℕ) (n : ℕ) → n ≡ length l → take n (over d 0 l) ≡ l
 first-places d l n e = ap (λ (k : ℕ). take k (over d 0 l)) e ∙ ap (λ (m : List ℕ). take (length l) (m ++ drop (0 + length l) d)) (take-length l) ∙ take-append-seam l (drop (0 + length l) d)
+
+-- no number of moves or strokes above 255 is told, so three digits are enough
+pub few-moves : (s : List ℕ) → (scored s .moves ≤ 255) × (scored s .strokes ≤ 255)
+unfolding scored scoreLines scoreMoves textRefusal
+few-moves s = go (leb (length s) 1024) (eqb (strictRefusal (stickerLine s)) 0) (inRange 18 ms) (leb (length ms) 255) refl
+  where
+    ms : List ℕ
+    ms = parse (moveLine s)
+
+    told : Bool → Bool → Bool → Bool → Score
+    told a b c d =
+        pick a
+        (pick b (pick (eqb (pick c (pick d 0 10) 7) 0) (scoreOf (cubeRead (stickerLine s)) ms) (refusedScore (pick c (pick d 0 10) 7))) (refusedScore (strictRefusal (stickerLine s))))
+        (refusedScore 10)
+
+    go : (a b c d : Bool) → leb (length ms) 255 ≡ d → (told a b c d .moves ≤ 255) × (told a b c d .strokes ≤ 255)
+    go false b c d e = (omega arith, omega arith)
+    go true false c d e = (omega arith, omega arith)
+    go true true false d e = (omega arith, omega arith)
+    go true true true false e = (omega arith, omega arith)
+    go true true true true e = let h = leb-true (length ms) 255 e in (h, h)

@@ -1,4 +1,183 @@
-// Replays recorded answers of kewb's cubie.rs and moves.rs, and says how many agree. Standard input holds a case a line (oracle/README.md).
+// Replays recorded answers of kewb about cubes, moves, stickers and move text, and says how many agree. Standard input holds a case a line
+// (oracle/README.md).
+ghost use Prim.Native.Nat.{_≤_};
+use replay::part_at;
+use replay::unhex;
+
+// Runs a case of a kind on what it was given; 255 is no kind.
+fn call(kind: u8, a: &[u8], b: &[u8], out: &mut [u8]) -> u8 {
+    match kind {
+        1 => unit::tsunghawi_mul(a, b, out),
+        3 => unit::tsunghawi_apply_moves(a, b, out),
+        4 => unit::tsunghawi_is_solved(a, out),
+        5 => unit::tsunghawi_is_solvable(a, out),
+        6 => unit::tsunghawi_counts(a, out),
+        11 => unit::tsunghawi_read_plain(a, out),
+        12 => unit::tsunghawi_read_strict(a, out),
+        13 => unit::tsunghawi_picture(a, out),
+        _ => call_with_move(kind, a, b, out),
+    }
+}
+
+// The kinds that take a move by its number.
+fn call_with_move(kind: u8, a: &[u8], b: &[u8], out: &mut [u8]) -> u8 {
+    if kind == 7 {
+        if a.len() != 1 {
+            return 255;
+        }
+        return unit::tsunghawi_get_inverse(a[0], out);
+    }
+    if b.len() != 1 {
+        return 255;
+    }
+    if kind == 2 {
+        return unit::tsunghawi_apply_move(a, b[0], out);
+    }
+    if a.len() != 1 {
+        return 255;
+    }
+    match kind {
+        8 => unit::tsunghawi_is_inverse(a[0], b[0], out),
+        9 => unit::tsunghawi_is_same_layer(a[0], b[0], out),
+        10 => unit::tsunghawi_is_move_available(a[0], b[0], out),
+        _ => 255,
+    }
+}
+
+// Runs a case, and says whether its number and its bytes are those that were recorded.
+fn same_case(kind: u8, a: &[u8], b: &[u8], number: u8, want: &[u8], out: &mut [u8]) -> bool {
+    if kind == 14 {
+        return same_text(kind, a, number, want, out);
+    }
+    if kind == 15 {
+        return same_text(kind, a, number, want, out);
+    }
+    if call(kind, a, b, out) != number {
+        return false;
+    }
+    cubie::inner::same_bytes(out, want)
+}
+
+// The kinds of move text.
+fn call_text(kind: u8, a: &[u8], out: &mut [u8], count: &mut usize) -> u8 {
+    if kind == 14 {
+        return unit::tsunghawi_scramble_from_str(a, out, count);
+    }
+    unit::tsunghawi_scramble_to_str(a, out, count)
+}
+
+// The same for move text, with its count, which holds 0xeeee before the call.
+fn same_count(kind: u8, a: &[u8], number: u8, want: &[u8], wanted: usize, out: &mut [u8]) -> bool {
+    let mut count: usize = 0xeeee;
+    if call_text(kind, a, out, &mut count) != number {
+        return false;
+    }
+    if count != wanted {
+        return false;
+    }
+    cubie::inner::same_bytes(out, want)
+}
+
+// A case of move text: behind the bytes that were lent stands the count, in two bytes.
+fn same_text(kind: u8, a: &[u8], number: u8, want: &[u8], out: &mut [u8]) -> bool {
+    let size = want.len();
+    if size < 2 {
+        return false;
+    }
+    if out.len() < size {
+        return false;
+    }
+    let room = size - 2;
+    let wanted = (want[room] as usize) * 256 + want[room + 1] as usize;
+    same_count(kind, a, number, &want[..room], wanted, &mut out[..room])
+}
+
+// Whether the case of a line agrees: a kind, two parts, a number and a part.
+fn agrees(line: &[u8], room: &mut [u8]) -> bool {
+    let a = part_at(line, 1);
+    let a_start = a.start;
+    let a_end = a.end;
+    let b = part_at(line, a_end);
+    let b_start = b.start;
+    let b_end = b.end;
+    if line.len() <= b_end {
+        return false;
+    }
+    let want = part_at(line, b_end + 1);
+    let start = want.start;
+    let end = want.end;
+    let size = end - start;
+    if room.len() < size {
+        return false;
+    }
+    same_case(
+        line[0],
+        &line[a_start..a_end],
+        &line[b_start..b_end],
+        line[b_end],
+        &line[start..end],
+        &mut room[..size],
+    )
+}
+
+// The lent bytes hold 0xee before each call, so that a refusal that changed them would show.
+fn lent() -> [u8; 256] {
+    [0xee; 256]
+}
+
+fn line_room() -> [u8; 256] {
+    [0; 256]
+}
+
+fn line_agrees(text: &[u8]) -> bool {
+    let mut line = line_room();
+    let n = unhex(text, &mut line);
+    let mut room = lent();
+    agrees(&line[..n], &mut room)
+}
+
+// 0 for a comment, 1 for a case that agrees, 2 for one that differs.
+fn verdict(text: &[u8]) -> u8
+    ensures { λ r. ⌜ r ≤ 2 ⌝ }
+{
+    if 0 < text.len() {
+        if text[0] == b'#' {
+            return 0;
+        }
+    }
+    if line_agrees(text) { 1 } else { 2 }
+}
+
+fn tell_differs(number: u64, text: &[u8]) {
+    io::write_all(1, b"differs: case ");
+    io::print_decimal(1, number);
+    io::write_all(1, b": ");
+    io::write_all(1, text);
+    io::write_all(1, b"\n");
+}
+
+fn tell_agree(count: u64) {
+    io::write_all(1, b"cases that agree: ");
+    io::print_decimal(1, count);
+    io::write_all(1, b"\n");
+}
+
+// Stops at the first case that differs, and names it by its number and its line.
+fn replay_all(text: &[u8]) {
+    let mut agreed: u64 = 0;
+    let mut at = 0;
+    while at < text.len() {
+        let end = bytes::scan::find(text, at, text.len(), b'\n');
+        let found = verdict(&text[at..end]);
+        if found == 2 {
+            tell_differs(agreed + 1, &text[at..end]);
+            return;
+        }
+        agreed += found as u64;
+        at = end + 1;
+    }
+    tell_agree(agreed);
+}
 
 // Room for the recorded text.
 fn room() -> [u8; 400000] {
@@ -8,5 +187,5 @@ fn room() -> [u8; 400000] {
 fn main() {
     let mut text = room();
     let n = io::read_full(0, &mut text);
-    cases::inner::replay_all(&text[..n]);
+    replay_all(&text[..n]);
 }

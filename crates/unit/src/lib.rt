@@ -217,8 +217,8 @@ pub extern "C" fn tsunghawi_scramble_to_str(list: &[u8], text: &mut [u8], count:
     let written = scramble::scramble_to_str(list, text);
     match written {
         Written::Refused(n) => n,
-        Written::Bytes(k) => {
-            *count = k;
+        Written::Bytes(size) => {
+            *count = size;
             0
         }
     }

@@ -1,2 +1,0 @@
-// What the programs replay_* run.
-pub mod inner;

@@ -1,0 +1,75 @@
+-- `replay_cubie::same_text` is safe: the count stands in the last two bytes. Assumes nothing.
+use mathlib.Core.Path.{sym}
+use Prim.Native.Nat.{_+_, _-_}
+use native.Mathlib.Omega.{arith}
+use denote.Ref.{now}
+use lib.ListN.{length}
+use lib.Seq.{length-take-le}
+use borrow.Author.Needs.{needs}
+use Rattle.replay_cubie.proofs.same_text.Statement.{statement}
+use Rattle.replay_cubie.proofs.same_text.Tie as tie
+
+returns : tie.Need-returns
+returns c = search needs
+
+returns-2 : tie.Need-returns-2
+returns-2 c = search needs
+
+shared-slice-read-wanted : tie.Need-shared-slice-read-wanted
+shared-slice-read-wanted c = search needs
+
+cast-wanted : tie.Need-cast-wanted
+cast-wanted c = omega (arith, c .shared-slice-known3 .given (length (now (c .before .before .before .before .before .before .args .want)) - 2))
+
+mul-wanted : tie.Need-mul-wanted
+mul-wanted c = omega (arith, c .shared-slice-known3 .given (length (now (c .before .before .before .before .before .before .args .want)) - 2))
+
+add-wanted : tie.Need-add-wanted
+add-wanted c = search needs
+
+shared-slice-read-wanted-2 : tie.Need-shared-slice-read-wanted-2
+shared-slice-read-wanted-2 c = search needs
+
+cast-wanted-2 : tie.Need-cast-wanted-2
+cast-wanted-2 c = omega (arith, c .shared-slice-known4 .given ((length (now (c .before .before .before .before .before .before .before .args .want)) - 2) + 1))
+
+add-wanted-2 : tie.Need-add-wanted-2
+add-wanted-2 c = omega (arith, c .before .shared-slice-known3 .given (length (now (c .before .before .before .before .before .before .before .args .want)) - 2), c .shared-slice-known4 .given ((length (now (c .before .before .before .before .before .before .before .args .want)) - 2) + 1))
+
+slice-aggregate-same-count : tie.Need-slice-aggregate-same-count
+slice-aggregate-same-count c = sym (length-take-le (length (now (c .before .before .before .before .before .before .before .before .args .want)) - 2) (now (c .before .before .before .before .before .before .before .before .args .want)) (omega arith))
+
+slice-relend-prefix-same-count : tie.Need-slice-relend-prefix-same-count
+slice-relend-prefix-same-count c = search needs
+
+slice-aggregate-same-count-2 : tie.Need-slice-aggregate-same-count-2
+slice-aggregate-same-count-2 c = sym (length-take-le (length (now (c .before .before .before .before .before .before .before .before .before .args .want)) - 2) (now (c .before .before .before .before .before .before .before .before .before .args .out)) (omega (arith, c .before .before .before .before .before .if1 .left, c .before .before .before .before .if2 .left)))
+
+same-count-requires : tie.Need-same-count-requires
+same-count-requires c κs = search needs
+
+same-length : tie.Need-same-length
+same-length c = search needs
+
+returns-3 : tie.Need-returns-3
+returns-3 c = search needs
+
+pub same-text-spec : {M : Type 1} → statement M
+same-text-spec =
+    tie.close
+    (tie.spec
+    returns
+    returns-2
+    shared-slice-read-wanted
+    cast-wanted
+    mul-wanted
+    add-wanted
+    shared-slice-read-wanted-2
+    cast-wanted-2
+    add-wanted-2
+    slice-aggregate-same-count
+    slice-relend-prefix-same-count
+    slice-aggregate-same-count-2
+    same-count-requires
+    same-length
+    returns-3)
