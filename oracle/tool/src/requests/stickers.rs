@@ -151,6 +151,7 @@ pub fn sample(seed: u64, ask: Ask) {
 }
 
 const SOLVED_BUT_FOR_TWO: &str = "\
+# The patient's case.
 # A cube that is solved but for two corners, UFR and UFL, twisted in place. The lamp shines on its upper face: the two F
 # there, bytes 6 and 8, are read as U. The plain reader can't match either corner, fills in the solved ones and accepts
 # a solved cube, which nobody holds. The strict reader answers 15.";
