@@ -1,5 +1,5 @@
 //! The product's C interface and safe calls of it. Every function gives the paper's refusal number, 0 for none.
-use crate::lent::{lend, lend_list, lend_text, Outcome};
+use crate::lent::{lend, lend_bytes, lend_list, lend_number, lend_text, Outcome};
 use wire::Cube;
 
 extern "C" {
@@ -26,6 +26,8 @@ extern "C" {
     fn tsunghawi_scramble_from_str(t: *const u8, t_len: usize, out: *mut u8, room: usize, count: *mut usize) -> u8;
     fn tsunghawi_scramble_to_str(list: *const u8, list_len: usize, out: *mut u8, room: usize, count: *mut usize) -> u8;
     fn tsunghawi_judge(input: *const u8, input_len: usize, out: *mut u8, out_len: usize, count: *mut usize) -> u8;
+    fn tsunghawi_arrangement_to_index(kind: u8, places: *const u8, places_len: usize, index: *mut u32) -> u8;
+    fn tsunghawi_index_to_arrangement(kind: u8, index: u32, places: *mut u8, places_len: usize) -> u8;
 }
 
 // SAFETY of every call below: pointers and lengths are those of live slices, and the lenders give memory of that length.
@@ -96,4 +98,14 @@ pub fn scramble_to_str(moves: &[u8], room: usize) -> Outcome<Vec<u8>> {
 /// What the program prints, a refusal too.
 pub fn judge(input: &[u8]) -> Outcome<Vec<u8>> {
     lend_text(64, |out, n, count| unsafe { tsunghawi_judge(input.as_ptr(), input.len(), out, n, count) })
+}
+
+/// The number of a coordinate's array.
+pub fn arrangement_to_index(kind: u8, places: &[u8]) -> Outcome<u32> {
+    lend_number(|index| unsafe { tsunghawi_arrangement_to_index(kind, places.as_ptr(), places.len(), index) })
+}
+
+/// The array of a coordinate's number, of so many places.
+pub fn index_to_arrangement(kind: u8, index: u32, places: usize) -> Outcome<Vec<u8>> {
+    lend_bytes(places, |out, n| unsafe { tsunghawi_index_to_arrangement(kind, index, out, n) })
 }

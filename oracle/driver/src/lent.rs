@@ -11,12 +11,13 @@ pub enum Outcome<T> {
 /// What lent memory holds before a call.
 const UNTOUCHED: u8 = 0xEE;
 const UNCOUNTED: usize = 0xEEEE;
+const UNNUMBERED: u32 = 0xEEEE_EEEE;
 
 /// How many more bytes, before and after what is lent, no call may touch.
 const SIDE: usize = 16;
 
 /// Lends n bytes to a call and looks at all of them afterwards.
-fn lend_bytes(n: usize, call: impl FnOnce(*mut u8, usize) -> u8) -> Outcome<Vec<u8>> {
+pub fn lend_bytes(n: usize, call: impl FnOnce(*mut u8, usize) -> u8) -> Outcome<Vec<u8>> {
     let mut room = vec![UNTOUCHED; SIDE + n + SIDE];
     let number = call(room.as_mut_ptr().wrapping_add(SIDE), n);
     let untouched = |part: &[u8]| part.iter().all(|&b| b == UNTOUCHED);
@@ -36,6 +37,19 @@ pub fn lend<const N: usize>(call: impl FnOnce(*mut u8, usize) -> u8) -> Outcome<
         Outcome::Done(lent) => Outcome::Done(lent.try_into().expect("as many as were lent")),
         Outcome::Refused(number) => Outcome::Refused(number),
         Outcome::Changed => Outcome::Changed,
+    }
+}
+
+/// Lends a number, which is the answer, between two more.
+pub fn lend_number(call: impl FnOnce(*mut u32) -> u8) -> Outcome<u32> {
+    let mut numbers = [UNNUMBERED; 3];
+    let number = call(numbers.as_mut_ptr().wrapping_add(1));
+    let [before, lent, after] = numbers;
+    match number {
+        _ if before != UNNUMBERED || after != UNNUMBERED => Outcome::Changed,
+        0 => Outcome::Done(lent),
+        _ if lent != UNNUMBERED => Outcome::Changed,
+        refusal => Outcome::Refused(refusal),
     }
 }
 

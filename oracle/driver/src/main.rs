@@ -1,4 +1,5 @@
 //! driver: the product's answers to the line protocol, through its static library.
+mod coords;
 mod cubie;
 mod ffi;
 mod lent;

@@ -1,12 +1,12 @@
 //! Which requests the product answers today.
-use crate::{cubie, stickers, text};
+use crate::{coords, cubie, stickers, text};
 use wire::{Args, NAMES};
 
 /// A request's name, the C function that it needs, and the answer to its fields, None where they don't fit.
 type Request = (&'static str, &'static str, fn(&Args) -> Option<String>);
 
 /// A request that the product offers is one line here and one function.
-const OFFERED: [Request; 16] = [
+const OFFERED: [Request; 19] = [
     ("solvable", "tsunghawi_is_solvable", cubie::solvable),
     ("solved", "tsunghawi_is_solved", cubie::solved),
     ("counts", "tsunghawi_counts", cubie::counts),
@@ -23,6 +23,9 @@ const OFFERED: [Request; 16] = [
     ("parse", "tsunghawi_scramble_from_str", text::parse),
     ("text", "tsunghawi_scramble_to_str", text::text),
     ("program", "tsunghawi_judge", text::program),
+    ("coords", "tsunghawi_arrangement_to_index", coords::coords),
+    ("index", "tsunghawi_arrangement_to_index", coords::index),
+    ("arrange", "tsunghawi_index_to_arrangement", coords::arrange),
 ];
 
 /// Whether the library that was linked has a function.

@@ -6,7 +6,7 @@ use std::ops::Range;
 use wire::Cube;
 use Kind::*;
 
-#[derive(Clone, Copy, PartialEq)]
+#[derive(Clone, Copy, PartialEq, Eq, Hash)]
 pub enum Kind {
     Co,
     Eo,

@@ -1,7 +1,8 @@
 //! A request with its answer as one line of hex, for the programs that replay answers with no kewb at hand.
+use crate::coords::{Kind, KINDS};
 use crate::cubes::{raw, solved};
 use crate::readers::solved_picture;
-use crate::requests::{cubie, stickers, text, Ask};
+use crate::requests::{coords, cubie, stickers, text, Ask};
 use wire::Args;
 
 /// What is recorded together.
@@ -21,12 +22,17 @@ enum Lent {
     Bytes(usize),
     /// As many as the request says, and a count.
     Room,
+    /// A coordinate's number, four bytes.
+    Number,
+    /// A coordinate's places.
+    Places,
 }
 
-pub const RECORDS: [Record; 3] = [
+pub const RECORDS: [Record; 4] = [
     Record { name: "cubie", sample: cubie::sample, first: 1, kinds: &CUBIE },
     Record { name: "facelet", sample: stickers::sample, first: 11, kinds: &FACELET },
     Record { name: "scramble", sample: text::sample, first: 14, kinds: &SCRAMBLE },
+    Record { name: "index", sample: coords::sample, first: 16, kinds: &INDEX },
 ];
 
 const CUBIE: [(&str, Lent); 10] = [
@@ -44,6 +50,7 @@ const CUBIE: [(&str, Lent); 10] = [
 const FACELET: [(&str, Lent); 3] =
     [("read", Lent::Bytes(40)), ("strict", Lent::Bytes(40)), ("picture", Lent::Bytes(54))];
 const SCRAMBLE: [(&str, Lent); 2] = [("parse", Lent::Room), ("text", Lent::Room)];
+const INDEX: [(&str, Lent); 2] = [("index", Lent::Number), ("arrange", Lent::Places)];
 
 /// What lent bytes hold before a call, and after a refusal.
 const UNTOUCHED: u8 = 0xEE;
@@ -65,15 +72,23 @@ impl Record {
         self.kinds().any(|(_, _, lent)| matches!(lent, Lent::Room))
     }
 
+    /// Whether its calls are about coordinates.
+    pub fn coordinates(&self) -> bool {
+        self.kinds().any(|(_, _, lent)| matches!(lent, Lent::Number | Lent::Places))
+    }
+
     /// The line of a request and its answer; None where there is no such record.
     pub fn line(&self, request: &str, answer: &str) -> Option<String> {
         let (word, rest) = request.split_once(' ')?;
         let (kind, name, lent) = self.kinds().find(|(_, name, _)| *name == word)?;
         let args = Args::of(rest);
         let (a, b) = given(name, &args)?;
+        let exactly = |n| result(name, answer, n).filter(|(_, out)| out.len() == n);
         let (number, out) = match lent {
-            Lent::Bytes(n) => result(name, answer, n).filter(|(_, out)| out.len() == n)?,
+            Lent::Bytes(n) => exactly(n)?,
             Lent::Room => in_room(name, answer, room(name, &args)?)?,
+            Lent::Number => exactly(4)?,
+            Lent::Places => exactly(coordinate(&args)?.places().len())?,
         };
         Some(hex(kind, &a, &b, number, &out))
     }
@@ -86,19 +101,33 @@ impl Record {
 }
 
 fn misfits(kind: u8, name: &str, lent: Lent) -> Vec<String> {
-    let Lent::Bytes(length) = lent else { return vec![] };
-    let (a, b) = fitting(name);
-    let mut lines = vec![];
-    let mut refused = |a: &[u8], b: &[u8], n: usize| lines.push(hex(kind, a, b, 10, &vec![UNTOUCHED; n]));
-    if a.len() == 40 {
-        refused(&a[1..], &b, length);
+    let refused = |a: &[u8], b: &[u8], n: usize| hex(kind, a, b, 10, &vec![UNTOUCHED; n]);
+    match lent {
+        Lent::Bytes(length) => {
+            let (a, b) = fitting(name);
+            let short_a = (a.len() == 40).then(|| refused(&a[1..], &b, length));
+            let short_b = (b.len() == 40).then(|| refused(&a, &b[1..], length));
+            let out = [length - 1, length + 1].map(|n| refused(&a, &b, n));
+            short_a.into_iter().chain(short_b).chain(out).collect()
+        }
+        Lent::Room => vec![],
+        Lent::Number => misfit_places().iter().map(|(a, places)| refused(a, places, 4)).collect(),
+        Lent::Places => misfit_places().iter().map(|(a, places)| refused(a, &[0; 4], places.len())).collect(),
     }
-    if b.len() == 40 {
-        refused(&a, &b[1..], length);
+}
+
+/// Each coordinate with one place too few, with one too many and with as many as others have; then 7, which is no
+/// coordinate, so that no number of places fits.
+fn misfit_places() -> Vec<([u8; 1], Vec<u8>)> {
+    let cube = raw(&solved());
+    let places = |kind: Kind, n: usize| kind.part(&cube).iter().copied().cycle().take(n).collect();
+    let mut all = vec![];
+    for kind in KINDS {
+        let own = kind.places().len();
+        all.extend([own - 1, own + 1, 20 - own].map(|n| ([kind as u8], places(kind, n))));
     }
-    refused(&a, &b, length - 1);
-    refused(&a, &b, length + 1);
-    lines
+    all.extend([8, 12].map(|n| ([7], places(Kind::Ep, n))));
+    all
 }
 
 /// What a kind can be given.
@@ -120,8 +149,15 @@ fn given(name: &str, args: &Args) -> Option<(Vec<u8>, Vec<u8>)> {
         "read" | "strict" => (args.bytes()?, vec![]),
         "parse" => (args.number_and_bytes()?.1, vec![]),
         "text" => (args.list(0)?, vec![]),
+        "index" => (vec![coordinate(args)? as u8], args.list(1)?),
+        "arrange" => (vec![coordinate(args)? as u8], args.number::<u32>(1)?.to_be_bytes().to_vec()),
         _ => (args.list(0)?, args.list(1).unwrap_or_default()),
     })
+}
+
+/// The coordinate that a request names.
+fn coordinate(args: &Args) -> Option<Kind> {
+    Kind::named(args.word(0)?)
 }
 
 /// The room that a request says.
@@ -155,6 +191,7 @@ fn result(name: &str, answer: &str, lent: usize) -> Option<(u8, Vec<u8>)> {
         "picture" => Some(said.as_bytes().to_vec()),
         "text" => Args::of(said).bytes(),
         "parse" => Args::of(said).list(0),
+        "index" => Some(said.parse::<u32>().ok()?.to_be_bytes().to_vec()),
         _ => said.split([' ', ',']).map(value).collect(),
     };
     Some((0, written?))

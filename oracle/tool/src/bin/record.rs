@@ -9,6 +9,9 @@ const RESULT: &str = "\
 # NUMBER is the refusal, 0 for none; OUT is what the lent bytes hold after the call, each ee before it.";
 const COUNT: &str = "\
 # The last two bytes of OUT are the count, the higher first; ee ee where refused.";
+const COORDINATES: &str = "\
+# A is the coordinate: 0 co, 1 eo, 2 e_combo, 3 cp, 4 ud_ep, 5 e_ep, 6 ep; 7 is none, so that no number of places fits it.
+# B and OUT are its places and its number, or the other way round; a number is four bytes, the highest first.";
 const MISFITS: &str = "\
 # Lent slices of another length than is asked for: 10, by the paper.";
 
@@ -22,6 +25,9 @@ fn main() {
     println!("{LINES}\n{}\n{RESULT}", record.legend());
     if record.counts() {
         println!("{COUNT}");
+    }
+    if record.coordinates() {
+        println!("{COORDINATES}");
     }
     let mut state = State::default();
     (record.sample)(seed, &mut |request| {

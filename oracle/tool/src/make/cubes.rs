@@ -79,10 +79,14 @@ pub fn loose_cube(g: &mut Rng) -> Cube {
     std::array::from_fn(|i| g.below(top(i) as u64) as u8)
 }
 
-/// Two places of a part swapped, never one place with itself.
+/// Two places of n, never one twice.
+pub fn two_places(g: &mut Rng, n: usize) -> (usize, usize) {
+    let i = g.place(n);
+    (i, (i + 1 + g.place(n - 1)) % n)
+}
+
 fn swap_two(g: &mut Rng, part: &mut [u8]) {
-    let i = g.place(part.len());
-    let j = (i + 1 + g.place(part.len() - 1)) % part.len();
+    let (i, j) = two_places(g, part.len());
     part.swap(i, j);
 }
 
@@ -113,8 +117,7 @@ pub fn flip_cube(g: &mut Rng) -> Cube {
 pub fn repeat_cube(g: &mut Rng) -> Cube {
     let mut r = raw(&some_cube(g));
     let (from, n) = if g.once_in(2) { (0, 8) } else { (16, 12) };
-    let i = g.place(n);
-    let j = (i + 1 + g.place(n - 1)) % n;
+    let (i, j) = two_places(g, n);
     r[from + i] = r[from + j];
     r
 }
@@ -136,7 +139,7 @@ pub fn spoilt_cube(g: &mut Rng) -> Cube {
 }
 
 /// A number out of range for a place: the first one, the last one or any.
-fn bad_number(g: &mut Rng, place: usize) -> u8 {
+pub fn bad_number(g: &mut Rng, place: usize) -> u8 {
     let top = top(place);
     match g.below(4) {
         0 => top,

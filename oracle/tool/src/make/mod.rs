@@ -1,4 +1,6 @@
-//! What requests are made of, seeded: cubes and move lists, sticker strings, move text, inputs of the program.
+//! What requests are made of, seeded: cubes and move lists, arrays of coordinates, sticker strings, move text, inputs of
+//! the program.
+pub mod arrays;
 mod cubes;
 pub mod programs;
 pub mod stickers;

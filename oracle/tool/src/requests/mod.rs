@@ -1,4 +1,5 @@
 //! The requests of each step's comparison, and the samples of them that are recorded.
+pub mod coords;
 pub mod cubie;
 pub mod stickers;
 pub mod text;
@@ -18,10 +19,11 @@ pub struct Step {
     pub things: &'static str,
 }
 
-pub const STEPS: [Step; 3] = [
+pub const STEPS: [Step; 4] = [
     Step { name: "cubie", compare: cubie::compare, things: "cubes" },
     Step { name: "stickers", compare: stickers::compare, things: "sticker strings and cubes" },
     Step { name: "text", compare: text::compare, things: "texts, lists and inputs" },
+    Step { name: "coords", compare: coords::compare, things: "arrangements, numbers and cubes" },
 ];
 
 /// A way to make something, and its share.
@@ -36,13 +38,24 @@ fn different<T: Clone + Eq + Hash>(
 ) -> usize {
     let mut met = HashSet::new();
     for (share, make) in classes {
-        let until = met.len() + (share * n) as usize;
-        while met.len() < until {
-            let one = make(g);
-            if met.insert(one.clone()) {
-                each(g, &one);
-            }
-        }
+        more(&mut met, g, share * n, make, each);
     }
     met.len()
+}
+
+/// n more, none of them met before.
+fn more<T: Clone + Eq + Hash>(
+    met: &mut HashSet<T>,
+    g: &mut Rng,
+    n: u64,
+    make: impl Fn(&mut Rng) -> T,
+    each: &mut dyn FnMut(&mut Rng, &T),
+) {
+    let until = met.len() + n as usize;
+    while met.len() < until {
+        let one = make(g);
+        if met.insert(one.clone()) {
+            each(g, &one);
+        }
+    }
 }
