@@ -1,4 +1,6 @@
 pub mod Budget
+pub mod Combo
+pub mod Digits
 pub mod Mask
 pub mod Parity
 pub mod Perm

@@ -1,3 +1,5 @@
+pub mod Combo
+pub mod Digits
 pub mod Lists
 pub mod Parity
 pub mod Perm

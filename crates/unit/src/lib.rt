@@ -9,6 +9,7 @@ ghost use Rattle.scramble.specs.Answers.{parsedText, parsedRoom, writtenText, w
 ghost use Rattle.scramble.specs.Text.{textOf};
 ghost use Rattle.unit.specs.Text.{parsedNumber, parsedCount, writtenNumber, writtenCount};
 ghost use Rattle.unit.specs.Judge.{judgeNumber, judgeRoom, judgeCount};
+ghost use Rattle.coordinate.specs.Calls.{indexNumber, indexLeft, arrangeNumber, arrangeLeft};
 use cubie::inner;
 use cubie::moves;
 use scramble::Parsed;
@@ -239,4 +240,22 @@ pub extern "C" fn tsunghawi_judge(input: &[u8], out: &mut [u8], count: &mut usiz
     inner::copy_in(&text, out, 0);
     *count = said.len;
     0
+}
+
+// The number of an arrangement, `kind` being 0 co, 1 eo, 2 e_combo, 3 cp, 4 ud_ep, 5 e_ep, 6 ep: 8 places for co and cp, else 12.
+#[no_mangle]
+pub extern "C" fn tsunghawi_arrangement_to_index(kind: u8, places: &[u8], number: &mut u32) -> u8
+    ensures { λ r. ⌜ r ≡ indexNumber kind (now (places .entry)) ⌝ }
+    ensures { λ r. ⌜ now (number .exit) ≡ indexLeft kind (now (places .entry)) (now (number .entry)) ⌝ }
+{
+    coordinate::to_index(kind, places, number)
+}
+
+// The arrangement of a number, of the same kinds.
+#[no_mangle]
+pub extern "C" fn tsunghawi_index_to_arrangement(kind: u8, number: u32, places: &mut [u8]) -> u8
+    ensures { λ r. ⌜ r ≡ arrangeNumber kind number (now (places .entry)) ⌝ }
+    ensures { λ r. ⌜ now (places .exit) ≡ arrangeLeft kind number (now (places .entry)) ⌝ }
+{
+    coordinate::from_index(kind, number, places)
 }

@@ -1,0 +1,235 @@
+-- The law that tables rest on, for each of the six kinds: over the columns of its phase, the coordinate after a move is a function of the
+-- coordinate alone. And phase 2: where co, eo and e_combo are 0, which its ten moves keep; all six are 0 there exactly for the solved cube.
+-- Assumes nothing.
+use mathlib.Core.Path.{_≡_, refl, sym, ap, ap₂, subst, _∙_}
+use mathlib.Core.Bool.{Bool, true, false, _&&_}
+use mathlib.Core.Logic.{⊎-elim}
+use mathlib.Core.List.{List, [], _∷_, _++_, map}
+use Prim.Native.Nat.{ℕ, zero, suc, _+_, _-_, _*_, _%_, _≤_, _<_, min}
+use native.Mathlib.Nat.{le-of-suc-le-suc, not-suc-le-zero}
+use native.Mathlib.Omega.{arith}
+use lib.Dec.{ltb, leb, eqb}
+use lib.ListN.{length, getD, take, drop, replicate, length-map, length-take, length-drop, take-append-drop}
+use lib.Seq.{getD-take, getD-drop, take-all, drop-at, take-at}
+use borrow.Author.Tests.{eqb-true, leb-true, ltb-true}
+use Rattle.base.specs.Combo.{choose, comboNumber, comboOf, mask}
+use Rattle.base.specs.Digits.{digitsOf}
+use Rattle.base.specs.Lists.{allBelow, Each, Under, Sized, inRange, total}
+use Rattle.base.specs.Perm.{less, same, bump, below, number, permOf, Perm, noRepeat}
+use Rattle.base.specs.Product.{compose, twisted}
+use Rattle.base.proofs.Combo.{combo-ext}
+use Rattle.base.proofs.Digits.{total-append}
+use Rattle.base.proofs.Perm.{Fills, less-is, total-map, total-ext, add-mono, number-map, fills-perm, perm-fills, below-le, length-permOf, permOf-number}
+use Rattle.base.proofs.Product.{map-at}
+use Rattle.base.proofs.Tests.{and-true, below-true, inRange-under, under-at, under-take, noRepeat-once, tests-perm}
+use Rattle.cubie.specs.Cube.{InRange, product, solvedCube, quarterTurns, power, moveOf, turn}
+use Rattle.cubie.specs.Moves.{allMoves, phase2Moves}
+use Rattle.cubie.specs.Solvable.{cornerTwist, edgeTwist, solvable}
+use Rattle.cubie.specs.declared.CubieCube.{CubieCube}
+use Rattle.cubie.proofs.Product.{cube-path, product-range}
+use Rattle.cubie.proofs.Solvable.{Parts, solvable-parts, turn-solvable}
+use Rattle.cubie.proofs.Turns.{move-range, turn-range}
+use Rattle.index.specs.Coordinates.{coNumber, eoNumber, eComboNumber, cpNumber, udEpNumber, eEpNumber, udPlaces, ePlaces}
+use Rattle.index.specs.Coordinates.{coOf, eoOf, eComboOf, cpOf, udEpOf, eEpOf}
+use Rattle.index.specs.Kinds.{co, eo, eCombo, cp, udEp, eEp, coordinate, after, InPhase2, Follows}
+use Rattle.index.proofs.Numbers.{e-places}
+use Rattle.index.proofs.Survives.{co-survives, eo-survives, e-combo-survives}
+
+-- ---- the columns are moves
+
+columns-fine : allBelow (λ j. ltb (getD allMoves j 0) 18) 18 ≡ true
+columns-fine = refl
+
+pub phase1-column : (j : ℕ) → j < 18 → getD allMoves j 0 < 18
+phase1-column j h = ltb-true _ _ (below-true (λ j. ltb (getD allMoves j 0) 18) 18 columns-fine j h)
+
+columns2-fine : allBelow (λ j. ltb (getD phase2Moves j 0) 18) 10 ≡ true
+columns2-fine = refl
+
+pub phase2-column : (j : ℕ) → j < 10 → getD phase2Moves j 0 < 18
+phase2-column j h = ltb-true _ _ (below-true (λ j. ltb (getD phase2Moves j 0) 18) 10 columns2-fine j h)
+
+-- ---- co, eo and cp: of a solvable cube the arrangement of the number is its own
+
+twists-sum : (xs : List ℕ) → Under 3 xs → (total (λ x. (3 - x) % 3) xs + total (λ x. x) xs) % 3 ≡ 0
+twists-sum [] u = refl
+twists-sum (x ∷ xs) u =
+    let h : x < 3 = u .0 in
+    let ih = twists-sum xs (u .1) in
+    let e : ((3 - x) % 3 + x) % 3 ≡ 0 = eqb-true _ _ (below-true (λ x. eqb (((3 - x) % 3 + x) % 3) 0) 3 refl x h) in
+    omega arith
+
+module _ (c : CubieCube) (r : InRange c) (s : solvable c ≡ true) where
+  parts : Parts c
+  parts = solvable-parts r s
+
+  pub co-own : coOf (coNumber (c .co)) ≡ c .co
+  co-own =
+      let a = twists-sum (c .co) (r .co .small) in
+      let b : cornerTwist c % 3 ≡ 0 = parts .twists in
+      co-survives (c .co) (r .co) (omega arith)
+
+  pub eo-own : eoOf (eoNumber (c .eo)) ≡ c .eo
+  eo-own = eo-survives (c .eo) (r .eo) (parts .flips)
+
+  pub cp-own : cpOf (cpNumber (c .cp)) ≡ c .cp
+  cp-own = permOf-number 8 (c .cp) (parts .corners)
+
+  -- exactly four places hold an edge below 4
+  pub four-low : below 4 (c .ep) ≡ 4
+  four-low = omega (arith, perm-fills (parts .edges) 4)
+
+  pub mask-own : mask (eComboOf (eComboNumber (c .ep))) ≡ mask (c .ep)
+  mask-own = e-combo-survives (c .ep) (r .ep .size) four-low
+
+pub co-follows : Follows co allMoves (λ c. Unit {0})
+unfolding product
+co-follows c r s d j h =
+    let m = moveOf (getD allMoves j 0) in
+    ap (λ (xs : List ℕ). coNumber (twisted 3 xs (m .cp) (m .co))) (sym (co-own c r s))
+
+pub eo-follows : Follows eo allMoves (λ c. Unit {0})
+unfolding product
+eo-follows c r s d j h =
+    let m = moveOf (getD allMoves j 0) in
+    ap (λ (xs : List ℕ). eoNumber (twisted 2 xs (m .ep) (m .eo))) (sym (eo-own c r s))
+
+pub cp-follows : Follows cp phase2Moves InPhase2
+unfolding product
+cp-follows c r s d j h =
+    let m = moveOf (getD phase2Moves j 0) in
+    ap (λ (xs : List ℕ). cpNumber (compose xs (m .cp))) (sym (cp-own c r s))
+
+-- ---- e_combo: a move takes the mask along
+
+-- two lists that agree at each place that q names
+compose-ext : {P : ℕ → Type 0} (xs ys : List ℕ) → ((i : ℕ) → P i → getD xs i 0 ≡ getD ys i 0) → (q : List ℕ) → Each P q → compose xs q ≡ compose ys q
+compose-ext xs ys e [] u = refl
+compose-ext xs ys e (i ∷ q) u = ap₂ _∷_ (e i (u .0)) (compose-ext xs ys e q (u .1))
+
+mask-compose : (n : ℕ) (xs : List ℕ) → length xs ≡ n → (q : List ℕ) → Under n q → mask (compose xs q) ≡ compose (mask xs) q
+mask-compose n xs l [] u = refl
+mask-compose n xs l (i ∷ q) u = ap₂ _∷_ (sym (map-at (λ x. less x 4) xs i (omega (arith, u .0)))) (mask-compose n xs l q (u .1))
+
+pub e-combo-follows : Follows eCombo allMoves (λ c. Unit {0})
+unfolding product
+e-combo-follows c r s d j h =
+    let q = moveOf (getD allMoves j 0) .ep in
+    let g = move-range (getD allMoves j 0) (phase1-column j h) .ep in
+    let a = eComboOf (eComboNumber (c .ep)) in
+    let own : mask a ≡ mask (c .ep) = mask-own c r s in
+    let l : length a ≡ 12 = sym (length-map a (λ x. less x 4)) ∙ ap length own ∙ length-map (c .ep) (λ x. less x 4) ∙ r .ep .size in
+    combo-ext 12 4 (compose (c .ep) q) (compose a q) (omega (arith, length-map q (λ i. getD (c .ep) i 0), g .size))
+    (length-map q (λ i. getD (c .ep) i 0) ∙ sym (length-map q (λ i. getD a i 0)))
+    (mask-compose 12 (c .ep) (r .ep .size) q (g .small) ∙ ap (λ (m : List ℕ). compose m q) (sym own) ∙ sym (mask-compose 12 a l q (g .small)))
+
+-- ---- phase 2: the edges of the middle layer are in it, the others outside
+
+-- the places after the fourth hold each of 4 to 11 once
+module _ (xs : List ℕ) (p : Perm 12 xs) (m : Under 4 (take 4 xs)) where
+  front : Perm 4 (take 4 xs)
+  front = record { size = simp length-take (omega (arith, p .size)); small = m; once = λ a. omega (arith, p .once a, parted a) }
+    where
+      parted : (a : ℕ) → total (same a) (take 4 xs) + total (same a) (drop 4 xs) ≡ total (same a) xs
+      parted a = sym (total-append (same a) (take 4 xs) (drop 4 xs)) ∙ ap (total (same a)) (take-append-drop 4 xs)
+
+  rest-fills : Fills 4 8 (drop 4 xs)
+  rest-fills d =
+      let e : below d (take 4 xs) + below d (drop 4 xs) ≡ below d xs = sym (total-append (λ x. less x d) (take 4 xs) (drop 4 xs)) ∙ ap (below d) (take-append-drop 4 xs) in
+      omega (arith, e, perm-fills p d, perm-fills front d)
+
+  rest-length : length (drop 4 xs) ≡ 8
+  rest-length = simp length-drop (omega (arith, p .size))
+
+  lowered : List ℕ
+  lowered = map (λ y. y - 4) (drop 4 xs)
+
+  lowered-back : map (λ x. 4 + x) lowered ≡ drop 4 xs
+  unfolding lowered
+  lowered-back = go (drop 4 xs) (omega (arith, rest-fills 4))
+    where
+      go : (ys : List ℕ) → below 4 ys ≡ 0 → map (λ x. 4 + x) (map (λ y. y - 4) ys) ≡ ys
+      go [] z = refl
+      go (y ∷ ys) z = ap₂ _∷_ (omega (arith, less-is y 4)) (go ys (omega (arith, less-is y 4)))
+
+  lowered-perm : Perm 8 lowered
+  lowered-perm = fills-perm (sym (length-map lowered (λ x. 4 + x)) ∙ ap length lowered-back ∙ rest-length) fills
+    where
+      fills : Fills 0 8 lowered
+      fills d =
+          let e : below (4 + d) (map (λ x. 4 + x) lowered) ≡ below d lowered =
+          total-map (λ x. less x (4 + d)) (λ x. 4 + x) lowered ∙ total-ext (λ x. add-mono 4 x d) lowered in
+          omega (arith, e, ap (below (4 + d)) lowered-back, rest-fills (4 + d))
+
+  -- so the arrangement of the number of the eight places has them, and that of the four has those
+  pub ud-own : drop 4 (udEpOf (udEpNumber xs)) ≡ drop 4 xs
+  ud-own =
+      let n : udEpNumber xs ≡ number lowered =
+      ap number (take-all 8 (drop 4 xs) (omega (arith, rest-length)) ∙ sym lowered-back) ∙ number-map (λ x. 4 + x) (add-mono 4) lowered in
+      ap (λ (v : ℕ). map (λ x. 4 + x) (permOf 8 v)) n ∙ ap (map (λ x. 4 + x)) (permOf-number 8 lowered lowered-perm) ∙ lowered-back
+
+  pub e-own : take 4 (eEpOf (eEpNumber xs)) ≡ take 4 xs
+  e-own = e-places (eEpNumber xs) ∙ permOf-number 4 (take 4 xs) front
+
+-- the ten moves keep the middle layer's four places apart from the other eight
+outside : List ℕ → Bool
+outside [] = true
+outside (x ∷ xs) = leb 4 x && outside xs
+
+outside-each : (xs : List ℕ) → outside xs ≡ true → Each (λ x. 4 ≤ x) xs
+unfolding outside
+outside-each [] e = tt
+outside-each (x ∷ xs) e = let p = and-true (leb 4 x) (outside xs) e in (leb-true 4 x (p .0), outside-each xs (p .1))
+
+apart : ℕ → Bool
+apart j = inRange 4 (take 4 (moveOf (getD phase2Moves j 0) .ep)) && outside (drop 4 (moveOf (getD phase2Moves j 0) .ep))
+
+all-apart : allBelow apart 10 ≡ true
+unfolding apart outside moveOf power product twisted quarterTurns solvedCube
+all-apart = refl
+
+module _ (j : ℕ) (h : j < 10) where
+  stays-inside : Under 4 (take 4 (moveOf (getD phase2Moves j 0) .ep))
+  unfolding apart
+  stays-inside = inRange-under 4 (take 4 (moveOf (getD phase2Moves j 0) .ep)) (and-true (inRange 4 (take 4 (moveOf (getD phase2Moves j 0) .ep))) _ (below-true apart 10 all-apart j h) .0)
+
+  stays-outside : Each (λ x. 4 ≤ x) (drop 4 (moveOf (getD phase2Moves j 0) .ep))
+  unfolding apart
+  stays-outside = outside-each (drop 4 (moveOf (getD phase2Moves j 0) .ep)) (and-true (inRange 4 (take 4 (moveOf (getD phase2Moves j 0) .ep))) _ (below-true apart 10 all-apart j h) .1)
+
+map-drop : (f : ℕ → ℕ) (n : ℕ) (q : List ℕ) → drop n (map f q) ≡ map f (drop n q)
+map-drop f zero q = refl
+map-drop f (suc n) [] = refl
+map-drop f (suc n) (x ∷ q) = map-drop f n q
+
+map-take : (f : ℕ → ℕ) (n : ℕ) (q : List ℕ) → take n (map f q) ≡ map f (take n q)
+map-take f zero q = refl
+map-take f (suc n) [] = refl
+map-take f (suc n) (x ∷ q) = ap (_∷_ (f x)) (map-take f n q)
+
+drop-at-place : (xs : List ℕ) (i : ℕ) → 4 ≤ i → getD xs i 0 ≡ getD (drop 4 xs) (i - 4) 0
+drop-at-place xs i h = let e : 4 + (i - 4) ≡ i = omega arith in sym (getD-drop 4 xs (i - 4) 0 ∙ ap (λ (k : ℕ). getD xs k 0) e)
+
+pub ud-ep-follows : Follows udEp phase2Moves InPhase2
+unfolding product
+ud-ep-follows c r s d j h =
+    let q = moveOf (getD phase2Moves j 0) .ep in
+    let xs = c .ep in
+    let ws = udEpOf (udEpNumber xs) in
+    let own : drop 4 ws ≡ drop 4 xs = ud-own xs (parts c r s .edges) (d .middle) in
+    ap (λ (l : List ℕ). number (take 8 l))
+    (map-drop (λ i. getD xs i 0) 4 q
+    ∙ compose-ext xs ws (λ i k. drop-at-place xs i k ∙ ap (λ (l : List ℕ). getD l (i - 4) 0) (sym own) ∙ sym (drop-at-place ws i k)) (drop 4 q) (stays-outside j h)
+    ∙ sym (map-drop (λ i. getD ws i 0) 4 q))
+
+pub e-ep-follows : Follows eEp phase2Moves InPhase2
+unfolding product
+e-ep-follows c r s d j h =
+    let q = moveOf (getD phase2Moves j 0) .ep in
+    let xs = c .ep in
+    let ws = eEpOf (eEpNumber xs) in
+    let own : take 4 ws ≡ take 4 xs = e-own xs (parts c r s .edges) (d .middle) in
+    ap number
+    (map-take (λ i. getD xs i 0) 4 q
+    ∙ compose-ext xs ws (λ i k. sym (getD-take 4 xs i 0 k) ∙ ap (λ (l : List ℕ). getD l i 0) (sym own) ∙ getD-take 4 ws i 0 k) (take 4 q) (stays-inside j h)
+    ∙ sym (map-take (λ i. getD ws i 0) 4 q))

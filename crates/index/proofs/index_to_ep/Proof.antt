@@ -1,0 +1,35 @@
+-- `index::index_to_ep` meets its contract. Assumes nothing.
+use mathlib.Core.Path.{_≡_, _∙_}
+use borrow.Author.Tests.{le-ltb, lt-ltb}
+use Rattle.index.specs.Coordinates.{epOf}
+use Rattle.index.proofs.Fill.{add-zeros}
+use borrow.Author.Needs.{needs}
+use Rattle.index.proofs.index_to_ep.Statement.{statement}
+use Rattle.index.proofs.index_to_ep.Tie as tie
+
+edges-refused-requires : tie.Need-edges-refused-requires
+edges-refused-requires c κs = search needs
+
+returns : tie.Need-returns
+returns c = rw (le-ltb _ _ (c .before .if1 .taken), c .edges-refused .ensures)
+
+slice-aggregate-fill-perm-slice : tie.Need-slice-aggregate-fill-perm-slice
+slice-aggregate-fill-perm-slice c = search needs
+
+fill-perm-slice-requires : tie.Need-fill-perm-slice-requires
+fill-perm-slice-requires c κs = search needs
+
+returns-2 : tie.Need-returns-2
+returns-2 c =
+    let e : c .before .fill-perm-slice .last .0 ≡ epOf (c .before .before .before .before .args .index) = c .before .fill-perm-slice .ensures ∙ add-zeros _ in
+    rw (lt-ltb _ _ (c .before .before .before .if1 .left), e)
+
+pub index-to-ep-spec : {M : Type 1} → statement M
+index-to-ep-spec =
+    tie.close
+    (tie.spec
+    edges-refused-requires
+    returns
+    slice-aggregate-fill-perm-slice
+    fill-perm-slice-requires
+    returns-2)
