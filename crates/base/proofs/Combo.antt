@@ -1,18 +1,18 @@
 -- Laws of combinations: one computed test over the numbers n over k, one over the 4,096 choices of places and one over the 495 numbers.
 -- Assumes nothing.
 use mathlib.Core.Path.{_≡_, refl, sym, ap, ap₂, subst, _∙_}
-use mathlib.Core.Bool.{Bool, true, false, _&&_}
+use mathlib.Core.Bool.{Bool, true, _&&_}
 use mathlib.Core.List.{List, [], _∷_, map}
-use Prim.Native.Nat.{ℕ, zero, suc, _+_, _-_, _*_, _/_, _≤_, _<_, min}
+use Prim.Native.Nat.{ℕ, zero, suc, _+_, _-_, _*_, _≤_, _<_}
 use native.Mathlib.Nat.{suc-inj}
 use native.Mathlib.Omega.{arith}
-use lib.Dec.{ltb, leb, eqb}
+use lib.Dec.{ltb, eqb}
 use lib.ListN.{length, getD, length-map}
-use borrow.Author.Tests.{eqb-true, eq-eqb, ltb-true, lt-ltb}
+use borrow.Author.Tests.{eqb-true, ltb-true, lt-ltb}
 use Rattle.base.specs.Combo.{choose, comboNumber, comboOf, mask}
-use Rattle.base.specs.Lists.{pick, allBelow, Under, Sized, inRange, sameList, total}
+use Rattle.base.specs.Lists.{pick, allBelow, Sized, inRange, sameList, total}
 use Rattle.base.specs.Perm.{less, below}
-use Rattle.base.proofs.Perm.{less-is, total-map, total-ext}
+use Rattle.base.proofs.Perm.{less-is, total-map}
 use Rattle.base.proofs.Product.{map-at}
 use Rattle.base.proofs.Tests.{and-true, below-true, sameList-is, inRange-under}
 
@@ -63,24 +63,44 @@ combo-ext (suc i) k xs ys h l e =
     ap (λ (c : ℕ). c * choose i k + comboNumber i (k - c) xs) b
     ∙ ap (λ (r : ℕ). less (getD ys i 0) 4 * choose i k + r) (combo-ext i (k - less (getD ys i 0) 4) xs ys (omega arith) l e)
 
+-- ---- what a computed test reads often is computed first, and once
+
+first : ℕ → (ℕ → Bool) → Bool
+first zero p = p zero
+first (suc n) p = p (suc n)
+
+first-is : (n : ℕ) (p : ℕ → Bool) → first n p ≡ p n
+unfolding first
+first-is zero p = refl
+first-is (suc n) p = refl
+
+whole : List ℕ → (List ℕ → Bool) → Bool
+whole [] p = p []
+whole (x ∷ xs) p = first x (λ y. whole xs (λ ys. p (y ∷ ys)))
+
+whole-is : (xs : List ℕ) (p : List ℕ → Bool) → whole xs p ≡ p xs
+unfolding whole
+whole-is [] p = refl
+whole-is (x ∷ xs) p = first-is x (λ y. whole xs (λ ys. p (y ∷ ys))) ∙ whole-is xs (λ ys. p (x ∷ ys))
+
 -- ---- the 495 numbers
 
-number-fine : ℕ → Bool
-number-fine n =
-    eqb (length (comboOf 12 4 n)) 12
-    && (inRange 12 (comboOf 12 4 n) && (eqb (below 4 (comboOf 12 4 n)) 4 && eqb (comboNumber 12 4 (comboOf 12 4 n)) n))
+fine-number : ℕ → List ℕ → Bool
+fine-number n xs = eqb (length xs) 12 && (inRange 12 xs && (eqb (below 4 xs) 4 && eqb (comboNumber 12 4 xs) n))
 
-numbers-fine : allBelow number-fine 495 ≡ true
-unfolding number-fine comboOf comboNumber choose less
+numbers-fine : allBelow (λ n. whole (comboOf 12 4 n) (fine-number n)) 495 ≡ true
+unfolding whole first fine-number comboOf comboNumber choose less
 numbers-fine = refl
 
 pub combo-back : (n : ℕ) → n < 495 → Sized 12 12 (comboOf 12 4 n) × (below 4 (comboOf 12 4 n) ≡ 4) × (comboNumber 12 4 (comboOf 12 4 n) ≡ n)
-unfolding number-fine
+unfolding fine-number
 combo-back n h =
-    let e = and-true (eqb (length (comboOf 12 4 n)) 12) _ (below-true number-fine 495 numbers-fine n h) in
-    let f = and-true (inRange 12 (comboOf 12 4 n)) _ (e .1) in
-    let g = and-true (eqb (below 4 (comboOf 12 4 n)) 4) _ (f .1) in
-    (record { size = eqb-true _ _ (e .0); small = inRange-under 12 (comboOf 12 4 n) (f .0) }, eqb-true _ _ (g .0), eqb-true _ _ (g .1))
+    let xs = comboOf 12 4 n in
+    let t : fine-number n xs ≡ true = sym (whole-is xs (fine-number n)) ∙ below-true (λ n. whole (comboOf 12 4 n) (fine-number n)) 495 numbers-fine n h in
+    let e = and-true (eqb (length xs) 12) _ t in
+    let f = and-true (inRange 12 xs) _ (e .1) in
+    let g = and-true (eqb (below 4 xs) 4) _ (f .1) in
+    (record { size = eqb-true _ _ (e .0); small = inRange-under 12 xs (f .0) }, eqb-true _ _ (g .0), eqb-true _ _ (g .1))
 
 -- ---- the masks with four places
 
@@ -95,21 +115,11 @@ every (suc n) (suc k) p = every n (suc k) (λ m. p (0 ∷ m)) && every n k (λ m
 pieces : List ℕ → List ℕ
 pieces m = map (λ b. 4 - 4 * b) m
 
--- p of n, where n is computed first, and once
-first : ℕ → (ℕ → Bool) → Bool
-first zero p = p zero
-first (suc n) p = p (suc n)
+mask-fine : List ℕ → ℕ → Bool
+mask-fine m n = ltb n 495 && sameList (mask (comboOf 12 4 n)) m
 
-first-is : (n : ℕ) (p : ℕ → Bool) → first n p ≡ p n
-unfolding first
-first-is zero p = refl
-first-is (suc n) p = refl
-
-mask-fine : List ℕ → Bool
-mask-fine m = first (comboNumber 12 4 (pieces m)) (λ n. ltb n 495 && sameList (mask (comboOf 12 4 n)) m)
-
-masks-fine : every 12 4 mask-fine ≡ true
-unfolding every first mask-fine pieces comboOf comboNumber choose less sameList
+masks-fine : every 12 4 (λ m. whole (pieces m) (λ xs. first (comboNumber 12 4 xs) (mask-fine m))) ≡ true
+unfolding every whole first mask-fine pieces comboOf comboNumber choose less sameList
 masks-fine = refl
 
 rest : {n x : ℕ} {m : List ℕ} → Sized (suc n) 2 (x ∷ m) → Sized n 2 m
@@ -141,10 +151,11 @@ mask-pieces [] = refl
 mask-pieces (x ∷ xs) = ap₂ _∷_ (omega (arith, less-is x 4, less-is (4 - 4 * less x 4) 4)) (mask-pieces xs)
 
 module _ (xs : List ℕ) (l : length xs ≡ 12) (four : below 4 xs ≡ 4) where
-  fits : mask-fine (mask xs) ≡ true
+  fits : mask-fine (mask xs) (comboNumber 12 4 (pieces (mask xs))) ≡ true
   fits =
-      every-true 12 4 mask-fine masks-fine (mask xs) (record { size = mask-sized xs .size ∙ l; small = mask-sized xs .small })
-      (total-map (λ b. b) (λ x. less x 4) xs ∙ four)
+      sym (whole-is (pieces (mask xs)) (λ ys. first (comboNumber 12 4 ys) (mask-fine (mask xs))) ∙ first-is (comboNumber 12 4 (pieces (mask xs))) (mask-fine (mask xs)))
+      ∙ every-true 12 4 (λ m. whole (pieces m) (λ xs. first (comboNumber 12 4 xs) (mask-fine m))) masks-fine (mask xs)
+      (record { size = mask-sized xs .size ∙ l; small = mask-sized xs .small }) (total-map (λ b. b) (λ x. less x 4) xs ∙ four)
 
   same-number : comboNumber 12 4 (pieces (mask xs)) ≡ comboNumber 12 4 xs
   unfolding pieces
@@ -154,9 +165,7 @@ module _ (xs : List ℕ) (l : length xs ≡ 12) (four : below 4 xs ≡ 4) where
 
   tested : ltb (comboNumber 12 4 xs) 495 && sameList (mask (comboOf 12 4 (comboNumber 12 4 xs))) (mask xs) ≡ true
   unfolding mask-fine
-  tested =
-      subst (λ (n : ℕ). ltb n 495 && sameList (mask (comboOf 12 4 n)) (mask xs) ≡ true) same-number
-      (sym (first-is (comboNumber 12 4 (pieces (mask xs))) (λ n. ltb n 495 && sameList (mask (comboOf 12 4 n)) (mask xs))) ∙ fits)
+  tested = subst (λ (n : ℕ). mask-fine (mask xs) n ≡ true) same-number fits
 
   pub combo-small : comboNumber 12 4 xs < 495
   combo-small = ltb-true _ _ (and-true (ltb (comboNumber 12 4 xs) 495) _ tested .0)

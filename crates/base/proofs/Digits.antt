@@ -7,7 +7,7 @@ use Prim.Native.Nat.{ℕ, zero, suc, _+_, _-_, _*_, _/_, _%_, _^_, _≤_, _<_}
 use native.Mathlib.Nat.{zero-lt-suc, suc-inj, suc-ne-zero, eq-or-lt-of-le, pow-zero, pow-succ', one-le-pow, mod-lt, mod-self, mod-eq-of-lt, mod-add-mod, mod-eq-sub-mod, div-lt-iff-lt-mul, div-add-mod'}
 use native.Mathlib.Omega.{arith}
 use lib.Arith.{digits-lt, digits-div, digits-mod}
-use lib.ListN.{length, getD, take, drop, length-append}
+use lib.ListN.{length, getD, take, length-append}
 use lib.Seq.{take-suc, take-all, take-at, length-take-le}
 use Rattle.base.specs.Digits.{digits, digitsOf, completing, orientationOf}
 use Rattle.base.specs.Lists.{Under, Sized, total}
@@ -77,12 +77,12 @@ module _ (k : ℕ) (pos : 0 < k) where
       let small : r < k = mod-lt s pos in
       sym (mod-add-mod s k ((k - r) % k))
       ∙ ⊎-elim
-        (λ (z : 0 ≡ r).
-          let e : k - r ≡ k = omega arith in
-          ap (λ (x : ℕ). (r + x % k) % k) e ∙ ap (λ (x : ℕ). (r + x) % k) (mod-self k) ∙ (let f : r + 0 ≡ r = omega arith in ap (λ (x : ℕ). x % k) f) ∙ mod-eq-of-lt small ∙ sym z)
-        (λ (p : 0 < r).
-          ap (λ (x : ℕ). (r + x) % k) (mod-eq-of-lt {n = k - r} {m = k} (omega arith)) ∙ (let f : r + (k - r) ≡ k = omega arith in ap (λ (x : ℕ). x % k) f) ∙ mod-self k)
-        (eq-or-lt-of-le {n = 0} {m = r} (omega arith))
+      (λ (z : 0 ≡ r).
+      let e : k - r ≡ k = omega arith in
+      ap (λ (x : ℕ). (r + x % k) % k) e ∙ ap (λ (x : ℕ). (r + x) % k) (mod-self k) ∙ (let f : r + 0 ≡ r = omega arith in ap (λ (x : ℕ). x % k) f) ∙ mod-eq-of-lt small ∙ sym z)
+      (λ (p : 0 < r).
+      ap (λ (x : ℕ). (r + x) % k) (mod-eq-of-lt {n = k - r} {m = k} (omega arith)) ∙ (let f : r + (k - r) ≡ k = omega arith in ap (λ (x : ℕ). x % k) f) ∙ mod-self k)
+      (eq-or-lt-of-le {n = 0} {m = r} (omega arith))
 
   only-completes : (s x : ℕ) → x < k → (s + x) % k ≡ 0 → (k - s % k) % k ≡ x
   only-completes s x h e =
@@ -91,14 +91,14 @@ module _ (k : ℕ) (pos : 0 < k) where
       let f : (r + x) % k ≡ 0 = mod-add-mod s k x ∙ e in
       ⊎-elim
       (λ u.
-        let m : r + x ≡ 0 = sym (mod-eq-of-lt (u .0)) ∙ f in
-        let b : k - r ≡ k = omega arith in
-        ap (λ (y : ℕ). y % k) b ∙ mod-self k ∙ omega arith)
+      let m : r + x ≡ 0 = sym (mod-eq-of-lt (u .0)) ∙ f in
+      let b : k - r ≡ k = omega arith in
+      ap (λ (y : ℕ). y % k) b ∙ mod-self k ∙ omega arith)
       (λ u.
-        let q : k ≤ r + x = u .0 in
-        let m : r + x - k ≡ 0 = sym (mod-eq-of-lt {n = r + x - k} {m = k} (omega arith)) ∙ sym (mod-eq-sub-mod q) ∙ f in
-        let b : k - r ≡ x = omega arith in
-        ap (λ (y : ℕ). y % k) b ∙ mod-eq-of-lt h)
+      let q : k ≤ r + x = u .0 in
+      let m : r + x - k ≡ 0 = sym (mod-eq-of-lt {n = r + x - k} {m = k} (omega arith)) ∙ sym (mod-eq-sub-mod q) ∙ f in
+      let b : k - r ≡ x = omega arith in
+      ap (λ (y : ℕ). y % k) b ∙ mod-eq-of-lt h)
       (less-cut (r + x) k)
 
   -- ---- the orientation of a number, and the number of an orientation

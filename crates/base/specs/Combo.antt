@@ -1,5 +1,4 @@
 -- Which places hold one of the lowest pieces, as a number: e_combo of index.rs. Assumes nothing: these are definitions.
-use mathlib.Core.Bool.{Bool}
 use mathlib.Core.List.{List, [], _∷_, _++_, map}
 use Prim.Native.Nat.{ℕ, zero, suc, _+_, _-_, _*_, _/_}
 use lib.Dec.{leb}

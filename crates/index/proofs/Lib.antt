@@ -1,5 +1,6 @@
 pub mod Answers
 pub mod Combination
+pub mod Examples
 pub mod Fill
 pub mod Numbers
 pub mod Orientation

@@ -1,16 +1,16 @@
 -- The seven coordinates: number to arrangement to number is the identity, and every number is below its count. Orientations are shown once over
 -- the base, permutations once over the length, combinations by base's computed tests. Assumes nothing.
-use mathlib.Core.Path.{_≡_, refl, sym, ap, _∙_}
+use mathlib.Core.Path.{_≡_, refl, ap, _∙_}
 use mathlib.Core.Bool.{Bool, true, false}
-use mathlib.Core.List.{List, [], _∷_, _++_, map}
-use Prim.Native.Nat.{ℕ, zero, suc, _+_, _-_, _^_, _≤_, _<_}
+use mathlib.Core.List.{List, map}
+use Prim.Native.Nat.{ℕ, zero, suc, _+_, _^_, _<_}
 use native.Mathlib.Omega.{arith}
 use lib.Dec.{eqb}
-use lib.ListN.{length, take, drop, replicate, length-map, length-append, length-take, length-drop}
+use lib.ListN.{length, take, replicate, length-map, length-append, length-take, length-drop}
 use lib.Seq.{take-all, take-at}
 use borrow.Author.Tests.{eq-eqb, eqb-true}
 use Rattle.base.specs.Digits.{digits, orientationOf}
-use Rattle.base.specs.Lists.{pick, inRange, Under, Sized}
+use Rattle.base.specs.Lists.{pick, inRange, Under}
 use Rattle.base.specs.Perm.{below, fact, number, permOf, noRepeat}
 use Rattle.base.proofs.Combo.{combo-back, combo-small}
 use Rattle.base.proofs.Digits.{under-append, orientation-sized, orientation-number, number-below}
@@ -61,6 +61,7 @@ e-combo-numbered = record { back = back; small = small }
     back n h =
         let b = combo-back n h in
         (b .0 .size, rw (under-inRange 12 (eComboOf n) (b .0 .small), eq-eqb (below 4 (eComboOf n)) 4 (b .1)), b .2)
+
     small : (xs : List ℕ) → length xs ≡ 12 → eCombo .refusal xs ≡ 0 → eCombo .number xs < 495
     small xs l e = combo-small xs l (eqb-true (below 4 xs) 4 (two-tests (inRange 12 xs) (eqb (below 4 xs) 4) 4 e .1))
 
@@ -112,6 +113,7 @@ ud-ep-numbered = record { back = back; small = small }
           rw (under-inRange 12 (udEpOf v) (omega arith, (omega arith, (omega arith, (omega arith, u)))), ud-places v, raised-differ 4 8 v h),
           ap number (ud-places v) ∙ raised-number 4 8 v h,
         )
+
     small : (xs : List ℕ) → length xs ≡ 12 → udEp .refusal xs ≡ 0 → udEp .number xs < 40320
     small xs l e = number-small 8 (udPlaces xs) (simp (length-take, length-drop) (omega (arith, l)))
 
@@ -124,6 +126,7 @@ e-ep-numbered = record { back = back; small = small }
   where
     zeros : Under 12 (replicate 8 0)
     zeros = inRange-under 12 (replicate 8 0) refl
+
     back : (v : ℕ) → v < 24 → (length (eEpOf v) ≡ 12) × (eEp .refusal (eEpOf v) ≡ 0) × (eEp .number (eEpOf v) ≡ v)
     back v h =
         let p = permOf-perm 4 v h in
@@ -132,5 +135,6 @@ e-ep-numbered = record { back = back; small = small }
           rw (under-inRange 12 (eEpOf v) u, e-places v, once-noRepeat (permOf 4 v) (p .once)),
           ap number (e-places v) ∙ number-permOf 4 v h,
         )
+
     small : (xs : List ℕ) → length xs ≡ 12 → eEp .refusal xs ≡ 0 → eEp .number xs < 24
     small xs l e = number-small 4 (ePlaces xs) (simp length-take (omega (arith, l)))

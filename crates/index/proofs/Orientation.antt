@@ -7,7 +7,7 @@ use native.Mathlib.Omega.{arith}
 use lib.Arith.{mod-mul, digits-div, digits-mod}
 use lib.ListN.{length, getD, take, drop, set, length-set, length-drop, drop-of-length-le}
 use lib.Seq.{drop-cons, take-suc-set, take-all, drop-set-lt, getD-set-same}
-use Rattle.base.specs.Digits.{digits, digitsOf, completing, orientationOf}
+use Rattle.base.specs.Digits.{digits, digitsOf, orientationOf}
 use Rattle.base.specs.Lists.{Under, total}
 use Rattle.base.proofs.Digits.{pow-pos, digits-below, length-digitsOf, digitsOf-under}
 use Rattle.base.proofs.Steps.{next}

@@ -2,34 +2,33 @@
 -- coordinate alone. And phase 2: where co, eo and e_combo are 0, which its ten moves keep; all six are 0 there exactly for the solved cube.
 -- Assumes nothing.
 use mathlib.Core.Path.{_≡_, refl, sym, ap, ap₂, subst, _∙_}
-use mathlib.Core.Bool.{Bool, true, false, _&&_}
-use mathlib.Core.Logic.{⊎-elim}
-use mathlib.Core.List.{List, [], _∷_, _++_, map}
-use Prim.Native.Nat.{ℕ, zero, suc, _+_, _-_, _*_, _%_, _≤_, _<_, min}
-use native.Mathlib.Nat.{le-of-suc-le-suc, not-suc-le-zero}
+use mathlib.Core.Bool.{Bool, true, _&&_}
+use mathlib.Core.Logic.{_↔_}
+use mathlib.Core.List.{List, [], _∷_, _++_, map, map-append}
+use Prim.Native.Nat.{ℕ, zero, suc, _+_, _-_, _%_, _≤_, _<_}
 use native.Mathlib.Omega.{arith}
 use lib.Dec.{ltb, leb, eqb}
 use lib.ListN.{length, getD, take, drop, replicate, length-map, length-take, length-drop, take-append-drop}
-use lib.Seq.{getD-take, getD-drop, take-all, drop-at, take-at}
+use lib.Seq.{getD-take, getD-drop, take-all}
 use borrow.Author.Tests.{eqb-true, leb-true, ltb-true}
 use Rattle.base.specs.Combo.{choose, comboNumber, comboOf, mask}
 use Rattle.base.specs.Digits.{digitsOf}
-use Rattle.base.specs.Lists.{allBelow, Each, Under, Sized, inRange, total}
-use Rattle.base.specs.Perm.{less, same, bump, below, number, permOf, Perm, noRepeat}
+use Rattle.base.specs.Lists.{allBelow, Each, Under, inRange, total}
+use Rattle.base.specs.Perm.{less, same, bump, below, number, permOf, Perm}
 use Rattle.base.specs.Product.{compose, twisted}
 use Rattle.base.proofs.Combo.{combo-ext}
 use Rattle.base.proofs.Digits.{total-append}
-use Rattle.base.proofs.Perm.{Fills, less-is, total-map, total-ext, add-mono, number-map, fills-perm, perm-fills, below-le, length-permOf, permOf-number}
+use Rattle.base.proofs.Perm.{Fills, less-is, total-map, total-ext, add-mono, number-map, fills-perm, perm-fills, permOf-number}
 use Rattle.base.proofs.Product.{map-at}
-use Rattle.base.proofs.Tests.{and-true, below-true, inRange-under, under-at, under-take, noRepeat-once, tests-perm}
+use Rattle.base.proofs.Tests.{and-true, below-true, inRange-under}
 use Rattle.cubie.specs.Cube.{InRange, product, solvedCube, quarterTurns, power, moveOf, turn}
 use Rattle.cubie.specs.Moves.{allMoves, phase2Moves}
-use Rattle.cubie.specs.Solvable.{cornerTwist, edgeTwist, solvable}
+use Rattle.cubie.specs.Solvable.{cornerTwist, solvable}
 use Rattle.cubie.specs.declared.CubieCube.{CubieCube}
-use Rattle.cubie.proofs.Product.{cube-path, product-range}
+use Rattle.cubie.proofs.Product.{cube-path}
 use Rattle.cubie.proofs.Solvable.{Parts, solvable-parts, turn-solvable}
 use Rattle.cubie.proofs.Turns.{move-range, turn-range}
-use Rattle.index.specs.Coordinates.{coNumber, eoNumber, eComboNumber, cpNumber, udEpNumber, eEpNumber, udPlaces, ePlaces}
+use Rattle.index.specs.Coordinates.{coNumber, eoNumber, eComboNumber, cpNumber, udEpNumber, eEpNumber}
 use Rattle.index.specs.Coordinates.{coOf, eoOf, eComboOf, cpOf, udEpOf, eEpOf}
 use Rattle.index.specs.Kinds.{co, eo, eCombo, cp, udEp, eEp, coordinate, after, InPhase2, Follows}
 use Rattle.index.proofs.Numbers.{e-places}
@@ -82,17 +81,19 @@ module _ (c : CubieCube) (r : InRange c) (s : solvable c ≡ true) where
   pub mask-own : mask (eComboOf (eComboNumber (c .ep))) ≡ mask (c .ep)
   mask-own = e-combo-survives (c .ep) (r .ep .size) four-low
 
+  pub co-after : (m : ℕ) → coordinate co (turn c m) ≡ after co (coordinate co c) m
+  unfolding product
+  co-after m = ap (λ (xs : List ℕ). coNumber (twisted 3 xs (moveOf m .cp) (moveOf m .co))) (sym co-own)
+
+  pub eo-after : (m : ℕ) → coordinate eo (turn c m) ≡ after eo (coordinate eo c) m
+  unfolding product
+  eo-after m = ap (λ (xs : List ℕ). eoNumber (twisted 2 xs (moveOf m .ep) (moveOf m .eo))) (sym eo-own)
+
 pub co-follows : Follows co allMoves (λ c. Unit {0})
-unfolding product
-co-follows c r s d j h =
-    let m = moveOf (getD allMoves j 0) in
-    ap (λ (xs : List ℕ). coNumber (twisted 3 xs (m .cp) (m .co))) (sym (co-own c r s))
+co-follows c r s d j h = co-after c r s (getD allMoves j 0)
 
 pub eo-follows : Follows eo allMoves (λ c. Unit {0})
-unfolding product
-eo-follows c r s d j h =
-    let m = moveOf (getD allMoves j 0) in
-    ap (λ (xs : List ℕ). eoNumber (twisted 2 xs (m .ep) (m .eo))) (sym (eo-own c r s))
+eo-follows c r s d j h = eo-after c r s (getD allMoves j 0)
 
 pub cp-follows : Follows cp phase2Moves InPhase2
 unfolding product
@@ -111,17 +112,21 @@ mask-compose : (n : ℕ) (xs : List ℕ) → length xs ≡ n → (q : List ℕ) 
 mask-compose n xs l [] u = refl
 mask-compose n xs l (i ∷ q) u = ap₂ _∷_ (sym (map-at (λ x. less x 4) xs i (omega (arith, u .0)))) (mask-compose n xs l q (u .1))
 
+module _ (c : CubieCube) (r : InRange c) (s : solvable c ≡ true) where
+  pub e-combo-after : (m : ℕ) → m < 18 → coordinate eCombo (turn c m) ≡ after eCombo (coordinate eCombo c) m
+  unfolding product
+  e-combo-after m h =
+      let q = moveOf m .ep in
+      let g = move-range m h .ep in
+      let a = eComboOf (eComboNumber (c .ep)) in
+      let own : mask a ≡ mask (c .ep) = mask-own c r s in
+      let l : length a ≡ 12 = sym (length-map a (λ x. less x 4)) ∙ ap length own ∙ length-map (c .ep) (λ x. less x 4) ∙ r .ep .size in
+      combo-ext 12 4 (compose (c .ep) q) (compose a q) (omega (arith, length-map q (λ i. getD (c .ep) i 0), g .size))
+      (length-map q (λ i. getD (c .ep) i 0) ∙ sym (length-map q (λ i. getD a i 0)))
+      (mask-compose 12 (c .ep) (r .ep .size) q (g .small) ∙ ap (λ (m : List ℕ). compose m q) (sym own) ∙ sym (mask-compose 12 a l q (g .small)))
+
 pub e-combo-follows : Follows eCombo allMoves (λ c. Unit {0})
-unfolding product
-e-combo-follows c r s d j h =
-    let q = moveOf (getD allMoves j 0) .ep in
-    let g = move-range (getD allMoves j 0) (phase1-column j h) .ep in
-    let a = eComboOf (eComboNumber (c .ep)) in
-    let own : mask a ≡ mask (c .ep) = mask-own c r s in
-    let l : length a ≡ 12 = sym (length-map a (λ x. less x 4)) ∙ ap length own ∙ length-map (c .ep) (λ x. less x 4) ∙ r .ep .size in
-    combo-ext 12 4 (compose (c .ep) q) (compose a q) (omega (arith, length-map q (λ i. getD (c .ep) i 0), g .size))
-    (length-map q (λ i. getD (c .ep) i 0) ∙ sym (length-map q (λ i. getD a i 0)))
-    (mask-compose 12 (c .ep) (r .ep .size) q (g .small) ∙ ap (λ (m : List ℕ). compose m q) (sym own) ∙ sym (mask-compose 12 a l q (g .small)))
+e-combo-follows c r s d j h = e-combo-after c r s (getD allMoves j 0) (phase1-column j h)
 
 -- ---- phase 2: the edges of the middle layer are in it, the others outside
 
@@ -233,3 +238,95 @@ e-ep-follows c r s d j h =
     (map-take (λ i. getD xs i 0) 4 q
     ∙ compose-ext xs ws (λ i k. sym (getD-take 4 xs i 0 k) ∙ ap (λ (l : List ℕ). getD l i 0) (sym own) ∙ getD-take 4 ws i 0 k) (take 4 q) (stays-inside j h)
     ∙ sym (map-take (λ i. getD ws i 0) 4 q))
+
+-- ---- co, eo and e_combo are 0 exactly in phase 2's domain
+
+-- the pieces below 4 are the first k
+low-front : (k : ℕ) (xs ms : List ℕ) → mask xs ≡ replicate k 1 ++ ms → Under 4 (take k xs)
+low-front zero xs ms e = tt
+low-front (suc k) [] ms e = tt
+low-front (suc k) (x ∷ xs) ms e =
+    (omega (arith, less-is x 4, ap (λ (l : List ℕ). getD l 0 0) e), low-front k xs ms (ap (λ (l : List ℕ). drop 1 l) e))
+
+mask-low : (ys : List ℕ) → Under 4 ys → mask ys ≡ replicate (length ys) 1
+mask-low [] u = refl
+mask-low (y ∷ ys) u = ap₂ _∷_ (omega (arith, less-is y 4, u .0)) (mask-low ys (u .1))
+
+mask-high : (ys : List ℕ) → below 4 ys ≡ 0 → mask ys ≡ replicate (length ys) 0
+mask-high [] z = refl
+mask-high (y ∷ ys) z = ap₂ _∷_ (omega arith) (mask-high ys (omega arith))
+
+module _ (c : CubieCube) (r : InRange c) (s : solvable c ≡ true) where
+  pub zero-phase2 : coordinate co c ≡ 0 → coordinate eo c ≡ 0 → coordinate eCombo c ≡ 0 → InPhase2 c
+  unfolding digitsOf comboOf choose less
+  zero-phase2 a b e =
+      record {
+        twists = sym (co-own c r s) ∙ ap coOf a;
+        flips = sym (eo-own c r s) ∙ ap eoOf b;
+        middle = low-front 4 (c .ep) (replicate 8 0) (sym (mask-own c r s) ∙ ap (λ (n : ℕ). mask (eComboOf n)) e);
+      }
+
+  middle-zero : Under 4 (take 4 (c .ep)) → coordinate eCombo c ≡ 0
+  unfolding comboNumber choose less
+  middle-zero m =
+      let xs = c .ep in
+      let p = parts c r s .edges in
+      let high : below 4 (drop 4 xs) ≡ 0 = omega (arith, rest-fills xs p m 4) in
+      let front4 : length (take 4 xs) ≡ 4 = simp length-take (omega (arith, p .size)) in
+      let e : mask xs ≡ replicate 4 1 ++ replicate 8 0 =
+      ap mask (sym (take-append-drop 4 xs)) ∙ map-append (λ x. less x 4) (take 4 xs) (drop 4 xs)
+      ∙ ap₂ _++_ (mask-low (take 4 xs) m ∙ ap (λ (n : ℕ). replicate n 1) front4) (mask-high (drop 4 xs) high ∙ ap (λ (n : ℕ). replicate n 0) (rest-length xs p m)) in
+      combo-ext 12 4 xs (replicate 4 0 ++ replicate 8 4) (omega (arith, p .size)) (p .size) e
+
+  pub phase2-zero : InPhase2 c → (coordinate co c ≡ 0) × (coordinate eo c ≡ 0) × (coordinate eCombo c ≡ 0)
+  phase2-zero d = (ap coNumber (d .twists), ap eoNumber (d .flips), middle-zero (d .middle))
+
+  pub phase2-exactly : ((coordinate co c ≡ 0) × (coordinate eo c ≡ 0) × (coordinate eCombo c ≡ 0)) ↔ InPhase2 c
+  phase2-exactly = (λ z. zero-phase2 (z .0) (z .1) (z .2), phase2-zero)
+
+-- the ten moves keep it
+kept : ℕ → Bool
+kept m = eqb (after co 0 m) 0 && (eqb (after eo 0 m) 0 && eqb (after eCombo 0 m) 0)
+
+all-kept : allBelow (λ j. kept (getD phase2Moves j 0)) 10 ≡ true
+unfolding kept moveOf power product twisted quarterTurns solvedCube digitsOf comboOf comboNumber choose less
+all-kept = refl
+
+pub phase2-keeps : (c : CubieCube) → InRange c → solvable c ≡ true → InPhase2 c → (j : ℕ) → j < 10 → InPhase2 (turn c (getD phase2Moves j 0))
+unfolding kept
+phase2-keeps c r s d j h =
+    let m = getD phase2Moves j 0 in
+    let k = phase2-column j h in
+    let z = phase2-zero c r s d in
+    let t = below-true (λ j. kept (getD phase2Moves j 0)) 10 all-kept j h in
+    let u = and-true (eqb (after co 0 m) 0) _ t in
+    let v = and-true (eqb (after eo 0 m) 0) _ (u .1) in
+    zero-phase2 (turn c m) (turn-range r m k) (turn-solvable r s m k)
+    (co-after c r s m ∙ ap (λ (n : ℕ). after co n m) (z .0) ∙ eqb-true _ _ (u .0))
+    (eo-after c r s m ∙ ap (λ (n : ℕ). after eo n m) (z .1) ∙ eqb-true _ _ (v .0))
+    (e-combo-after c r s m k ∙ ap (λ (n : ℕ). after eCombo n m) (z .2) ∙ eqb-true _ _ (v .1))
+
+-- ---- all six are 0 exactly for the solved cube
+
+zero-solved : (c : CubieCube) → InRange c → solvable c ≡ true → InPhase2 c
+    → coordinate cp c ≡ 0 → coordinate udEp c ≡ 0 → coordinate eEp c ≡ 0 → c ≡ solvedCube
+unfolding permOf bump solvedCube
+zero-solved c r s d a b e =
+    let p = parts c r s .edges in
+    cube-path (sym (cp-own c r s) ∙ ap cpOf a) (d .twists)
+    (sym (take-append-drop 4 (c .ep))
+    ∙ ap₂ _++_ (sym (e-own (c .ep) p (d .middle)) ∙ ap (λ (n : ℕ). take 4 (eEpOf n)) e) (sym (ud-own (c .ep) p (d .middle)) ∙ ap (λ (n : ℕ). drop 4 (udEpOf n)) b))
+    (d .flips)
+
+abbrev pub AllZero : CubieCube → Type 0
+AllZero c =
+    (coordinate co c ≡ 0) × (coordinate eo c ≡ 0) × (coordinate eCombo c ≡ 0)
+    × (coordinate cp c ≡ 0) × (coordinate udEp c ≡ 0) × (coordinate eEp c ≡ 0)
+
+solved-zero : AllZero solvedCube
+unfolding solvedCube comboNumber choose less
+solved-zero = (refl, refl, refl, refl, refl, refl)
+
+pub solved-exactly : (c : CubieCube) → InRange c → solvable c ≡ true → AllZero c ↔ (c ≡ solvedCube)
+solved-exactly c r s =
+    (λ z. zero-solved c r s (zero-phase2 c r s (z .0) (z .1) (z .2)) (z .3) (z .4) (z .5), λ e. subst AllZero (sym e) solved-zero)

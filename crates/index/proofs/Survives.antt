@@ -4,21 +4,21 @@ use mathlib.Core.Path.{_≡_, refl, sym, ap, ap₂, subst, _∙_}
 use mathlib.Core.Logic.{⊎-elim}
 use mathlib.Core.Bool.{true}
 use mathlib.Core.List.{List, [], _∷_, map}
-use Prim.Native.Nat.{ℕ, zero, suc, _+_, _-_, _*_, _/_, _%_, _≤_, _<_, suc-le-suc}
-use native.Mathlib.Nat.{suc-inj, suc-ne-zero, zero-lt-suc, le-of-suc-le-suc, eq-or-lt-of-le, not-suc-le-zero}
+use Prim.Native.Nat.{ℕ, zero, suc, _+_, _*_, _/_, _%_, _≤_, _<_}
+use native.Mathlib.Nat.{suc-inj, suc-ne-zero, le-of-suc-le-suc, eq-or-lt-of-le, not-suc-le-zero}
 use native.Mathlib.Omega.{arith}
 use lib.Arith.{digits-div, digits-mod}
 use lib.Dec.{eqb}
-use lib.ListN.{length, getD, take, drop, length-map, length-take, length-drop}
+use lib.ListN.{length, getD, length-map, length-take, length-drop}
 use borrow.Author.Tests.{eqb-true}
 use Rattle.base.specs.Combo.{mask}
-use Rattle.base.specs.Lists.{total, Sized, Under, inRange}
+use Rattle.base.specs.Lists.{total, Sized}
 use Rattle.base.specs.Perm.{less, below, count, fact, number, bump, permOf, Perm, noRepeat}
 use Rattle.base.proofs.Combo.{combo-mask}
 use Rattle.base.proofs.Digits.{number-orientation}
-use Rattle.base.proofs.Perm.{less-is, less-cut, same-is, bump-is, bump-cut, below-suc, add-mono, number-lt, permOf-number, length-permOf}
+use Rattle.base.proofs.Perm.{less-is, less-cut, same-is, bump-is, below-suc, add-mono, number-lt, permOf-number, length-permOf}
 use Rattle.base.proofs.Product.{map-at}
-use Rattle.base.proofs.Tests.{and-true, noRepeat-once}
+use Rattle.base.proofs.Tests.{and-true}
 use Rattle.index.specs.Coordinates.{coNumber, eoNumber, eComboNumber, udPlaces, ePlaces, udEpNumber, eEpNumber}
 use Rattle.index.specs.Coordinates.{coOf, eoOf, eComboOf, udEpOf, eEpOf}
 use Rattle.index.specs.Kinds.{SameOrder}
@@ -64,8 +64,8 @@ rank-next x y xs none here =
     let b = bump-is (below x xs) (below y xs) in
     ⊎-elim (λ u. omega (arith, b, below-mono {a = x} {b = y} (omega (arith, u .0)) xs))
     (λ u.
-      ⊎-elim (λ (e : y ≡ x). absurd (omega (arith, ap (λ (z : ℕ). count z xs) e)))
-      (λ (v : y < x). omega (arith, b, below-less xs y x here v)) (eq-or-lt-of-le {n = y} {m = x} (u .0)))
+    ⊎-elim (λ (e : y ≡ x). absurd (omega (arith, ap (λ (z : ℕ). count z xs) e)))
+    (λ (v : y < x). omega (arith, b, below-less xs y x here v)) (eq-or-lt-of-le {n = y} {m = x} (u .0)))
     (less-cut x y)
 
 -- the permutation of the number of a list without repeats holds at each place how many of the list are below the element there
@@ -97,6 +97,7 @@ order-survives xs d = (length-permOf n (number xs), order)
   where
     n : ℕ
     n = length xs
+
     order : (i j : ℕ) → i < length (permOf (length xs) (number xs)) → j < length (permOf (length xs) (number xs))
         → less (getD (permOf (length xs) (number xs)) i 0) (getD (permOf (length xs) (number xs)) j 0) ≡ less (getD xs i 0) (getD xs j 0)
     order i j h k =
@@ -111,11 +112,13 @@ order-survives xs d = (length-permOf n (number xs), order)
 
 -- on top of b the order is the same
 raised-order : (b : ℕ) (xs ys : List ℕ) → SameOrder xs ys → SameOrder (map (λ x. b + x) xs) ys
-raised-order b xs ys s =
-    (l ∙ s .0, λ i j h k.
+raised-order b xs ys s = (
+  l ∙ s .0,
+  λ i j h k.
       let a : i < length xs = omega (arith, l) in
       let c : j < length xs = omega (arith, l) in
-      ap₂ less (map-at (λ x. b + x) xs i a) (map-at (λ x. b + x) xs j c) ∙ add-mono b (getD xs i 0) (getD xs j 0) ∙ s .1 i j a c)
+      ap₂ less (map-at (λ x. b + x) xs i a) (map-at (λ x. b + x) xs j c) ∙ add-mono b (getD xs i 0) (getD xs j 0) ∙ s .1 i j a c,
+)
   where
     l : length (map (λ x. b + x) xs) ≡ length xs
     l = length-map xs (λ x. b + x)

@@ -1,13 +1,12 @@
 -- The seven coordinates as values of one kind of record, so that a law about all of them is one statement. Assumes nothing: these are definitions.
 use mathlib.Core.Path.{_≡_}
 use mathlib.Core.Bool.{true}
-use mathlib.Core.List.{List, [], _∷_}
+use mathlib.Core.List.{List}
 use Prim.Native.Nat.{ℕ, _<_}
 use lib.ListN.{length, getD, take, replicate}
 use Rattle.base.specs.Lists.{Under}
 use Rattle.base.specs.Perm.{less}
 use Rattle.cubie.specs.Cube.{InRange, solvedCube, turn}
-use Rattle.cubie.specs.Moves.{allMoves, phase2Moves}
 use Rattle.cubie.specs.Solvable.{solvable}
 use Rattle.cubie.specs.declared.CubieCube.{CubieCube}
 use Rattle.index.specs.Coordinates.{coRefusal, eoRefusal, eComboRefusal, cpRefusal, udEpRefusal, eEpRefusal, epRefusal}

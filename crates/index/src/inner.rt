@@ -1,7 +1,7 @@
 // What other crates call without the tests of the public functions, and the loops under them.
 ghost use mathlib.Core.Path.{_≡_};
 ghost use mathlib.Core.List.{map};
-ghost use Prim.Native.Nat.{ℕ, _+_, _-_, _≤_, _<_, _^_};
+ghost use Prim.Native.Nat.{_+_, _-_, _≤_, _<_, _^_};
 ghost use lib.ListN.{length};
 ghost use Rattle.base.specs.Combo.{choose};
 ghost use Rattle.base.specs.Digits.{digits, orientationOf};
@@ -86,7 +86,7 @@ pub fn index_to_eo(index: Eo) -> [u8; 12]
 // ---- combinations
 
 // How many of `s` are below 4.
-pub fn count_below_4(s: &[u8]) -> u8
+pub(crate) fn count_below_4(s: &[u8]) -> u8
     requires { ⌜ length (now s) ≤ 12 ⌝ }
     ensures { λ r. ⌜ r ≡ below 4 (now (s .entry)) ⌝ }
 {
@@ -159,7 +159,7 @@ pub fn index_to_e_combo(index: ECombo) -> [u8; 12]
 // ---- permutations
 
 // The number of the order that the places of `cp` stand in.
-pub fn slice_to_index(cp: &[u8]) -> usize
+pub(crate) fn slice_to_index(cp: &[u8]) -> usize
     requires { ⌜ length (now cp) ≤ 12 ⌝ }
     ensures { λ r. ⌜ r ≡ number (now (cp .entry)) ⌝ }
 {
@@ -191,7 +191,7 @@ fn raise(s: &mut [u8], d: u8)
 }
 
 // The permutation of the number `index`, each piece `base` higher, from the last place to the first.
-pub fn fill_perm_slice(s: &mut [u8], base: u8, index: usize)
+pub(crate) fn fill_perm_slice(s: &mut [u8], base: u8, index: usize)
     requires { ⌜ (length (now s) ≤ 12) × (base ≤ 200) × (index < fact (length (now s))) ⌝ }
     ensures { λ r. ⌜ now (s .exit) ≡ map (λ x. base + x) (permOf (length (now (s .entry))) index) ⌝ }
 {

@@ -1,12 +1,11 @@
 -- `index::inner::fill_orientation_slice` meets its contract. The loop's invariant: the places from i on, but for the last, hold the last
 -- digits, rest is the other digits, and sum the sum of those held. Assumes nothing.
-use mathlib.Core.Path.{_≡_, refl, _∙_}
-use Prim.Native.Nat.{ℕ, suc, _≤_, _+_, _-_, _/_, _%_, _^_}
+use mathlib.Core.Path.{_≡_}
+use Prim.Native.Nat.{suc, _≤_, _-_, _/_, _^_}
 use native.Mathlib.Nat.{mod-lt}
 use native.Mathlib.Omega.{arith}
 use denote.Ref.{now}
 use lib.ListN.{length, take, drop, length-set}
-use borrow.Author.Needs.{needs}
 use Rattle.base.specs.Lists.{total}
 use Rattle.index.proofs.Orientation.{lowest, fill-start, fill-digit, fill-sum, fill-turn, fill-end}
 use Rattle.index.proofs.inner.fill_orientation_slice.Statement.{statement}

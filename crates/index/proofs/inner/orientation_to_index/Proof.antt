@@ -6,7 +6,6 @@ use native.Mathlib.Nat.{zero-mul}
 use native.Mathlib.Omega.{arith}
 use denote.Ref.{now}
 use lib.ListN.{length, drop}
-use borrow.Author.Needs.{needs}
 use Rattle.base.specs.Digits.{digits}
 use Rattle.index.proofs.Orientation.{digits-step, digits-fit, digits-end}
 use Rattle.index.proofs.inner.orientation_to_index.Statement.{statement}
