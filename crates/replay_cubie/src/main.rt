@@ -1,5 +1,5 @@
-// Replays recorded answers of kewb about cubes, moves, stickers and move text, and says how many agree. Standard input holds a case a line
-// (oracle/README.md).
+// Replays recorded answers of kewb about cubes, moves, stickers, move text and coordinates, and says how many agree. Standard input holds
+// a case a line (oracle/README.md).
 ghost use Prim.Native.Nat.{_≤_};
 use replay::part_at;
 use replay::unhex;
@@ -52,6 +52,12 @@ fn same_case(kind: u8, a: &[u8], b: &[u8], number: u8, want: &[u8], out: &mut [u
     if kind == 15 {
         return same_text(kind, a, number, want, out);
     }
+    if kind == 16 {
+        return same_index(a, b, number, want);
+    }
+    if kind == 17 {
+        return same_arrangement(a, b, number, want, out);
+    }
     if call(kind, a, b, out) != number {
         return false;
     }
@@ -90,6 +96,43 @@ fn same_text(kind: u8, a: &[u8], number: u8, want: &[u8], out: &mut [u8]) -> boo
     let room = size - 2;
     let wanted = (want[room] as usize) * 256 + want[room + 1] as usize;
     same_count(kind, a, number, &want[..room], wanted, &mut out[..room])
+}
+
+// The number of four bytes, the highest first.
+fn number_of(a: u8, b: u8, c: u8, d: u8) -> u32 {
+    let high = (a as u32) * 256 + b as u32;
+    let low = (c as u32) * 256 + d as u32;
+    high * 65536 + low
+}
+
+// A case of a coordinate's number, which holds 0xee in each of its four bytes before the call.
+fn same_index(a: &[u8], b: &[u8], number: u8, want: &[u8]) -> bool {
+    if a.len() != 1 {
+        return false;
+    }
+    if want.len() != 4 {
+        return false;
+    }
+    let mut found: u32 = 0xeeeeeeee;
+    if unit::tsunghawi_arrangement_to_index(a[0], b, &mut found) != number {
+        return false;
+    }
+    found == number_of(want[0], want[1], want[2], want[3])
+}
+
+// A case of the arrangement of a number, which is in four bytes.
+fn same_arrangement(a: &[u8], b: &[u8], number: u8, want: &[u8], out: &mut [u8]) -> bool {
+    if a.len() != 1 {
+        return false;
+    }
+    if b.len() != 4 {
+        return false;
+    }
+    let n = number_of(b[0], b[1], b[2], b[3]);
+    if unit::tsunghawi_index_to_arrangement(a[0], n, out) != number {
+        return false;
+    }
+    cubie::inner::same_bytes(out, want)
 }
 
 // Whether the case of a line agrees: a kind, two parts, a number and a part.
@@ -180,8 +223,8 @@ fn replay_all(text: &[u8]) {
 }
 
 // Room for the recorded text.
-fn room() -> [u8; 400000] {
-    [0; 400000]
+fn room() -> [u8; 500000] {
+    [0; 500000]
 }
 
 fn main() {
