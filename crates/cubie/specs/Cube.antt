@@ -1,6 +1,6 @@
 -- The cube of cubie.rs: its range, the product of two, the six quarter turns and the 18 moves. Assumes nothing: these are definitions.
 use mathlib.Core.Bool.{Bool, true, false, _&&_}
-use mathlib.Core.List.{List, [], _∷_}
+use mathlib.Core.List.{List, [], _∷_, _++_}
 use Prim.Native.Nat.{ℕ, zero, suc, _/_, _%_}
 use lib.ListN.{getD}
 use Rattle.base.specs.Lists.{pick, inRange, Sized, sameList}
@@ -17,6 +17,10 @@ pub record InRange (c : CubieCube) : Type 0 where
   pub co : Sized 8 3 (c .co)
   pub ep : Sized 12 12 (c .ep)
   pub eo : Sized 12 2 (c .eo)
+
+-- a cube as 40 bytes: cp 8, co 8, ep 12, eo 12
+abbrev pub bytesOf : CubieCube → List ℕ
+bytesOf c = ((c .cp ++ c .co) ++ c .ep) ++ c .eo
 
 -- `Mul`
 unfoldable pub product : CubieCube → CubieCube → CubieCube

@@ -9,7 +9,7 @@ ghost use Rattle.base.specs.Parity.{swaps, Settled};
 ghost use Rattle.base.specs.Perm.{noRepeat};
 ghost use Rattle.base.specs.Product.{compose, twisted};
 ghost use Rattle.cubie.specs.Answers.{refusalWith};
-ghost use Rattle.cubie.specs.Cube.{refusalOf, product, solvedCube, quarterTurns, moveOf, turn, applyMoves, isHome};
+ghost use Rattle.cubie.specs.Cube.{refusalOf, bytesOf, product, solvedCube, quarterTurns, moveOf, turn, applyMoves, isHome};
 ghost use Rattle.cubie.specs.Moves.{moveRefusal, isInverse, isSameLayer, inverseMove, isAvailable, allMoves, phase2Moves};
 ghost use Rattle.cubie.specs.Solvable.{cornerTwist, edgeTwist, cornerPerm, edgePerm, solvable};
 use crate::CubeAnswer;
@@ -203,7 +203,7 @@ fn count_turns(s: &[u8], k: u8) -> u8
 }
 
 // The pieces of `p` at the places that `q` names.
-fn permute(p: &[u8], q: &[u8], out: &mut [u8])
+pub fn permute(p: &[u8], q: &[u8], out: &mut [u8])
     requires { ⌜ (length (now q) ≡ length (now out)) × Under (length (now p)) (now q) ⌝ }
     ensures { λ r. ⌜ now (out .exit) ≡ compose (now (p .entry)) (now (q .entry)) ⌝ }
 {
@@ -215,7 +215,7 @@ fn permute(p: &[u8], q: &[u8], out: &mut [u8])
 }
 
 // The twists of `t` at the places that `q` names, and those of `s` on top, modulo `k`.
-fn twist(t: &[u8], q: &[u8], s: &[u8], k: u8, out: &mut [u8])
+pub fn twist(t: &[u8], q: &[u8], s: &[u8], k: u8, out: &mut [u8])
     requires { ⌜ (length (now q) ≡ length (now out)) × (length (now s) ≡ length (now out)) ⌝ }
     requires { ⌜ Under (length (now t)) (now q) ⌝ }
     requires { ⌜ Under k (now t) × Under k (now s) × (0 < k) × (k ≤ 3) ⌝ }
@@ -261,6 +261,21 @@ pub fn refusal(c: CubieCube) -> u8
         return 6;
     }
     0
+}
+
+// The 40 bytes of a cube.
+pub fn put_cube(c: CubieCube, out: &mut [u8])
+    requires { ⌜ length (now out) ≡ 40 ⌝ }
+    ensures { λ r. ⌜ now (out .exit) ≡ bytesOf c ⌝ }
+{
+    let cp = c.cp;
+    copy_in(&cp, out, 0);
+    let co = c.co;
+    copy_in(&co, out, 8);
+    let ep = c.ep;
+    copy_in(&ep, out, 16);
+    let eo = c.eo;
+    copy_in(&eo, out, 28);
 }
 
 // The product, as `Mul` has it.

@@ -50,7 +50,7 @@ phase2-column j h = ltb-true _ _ (below-true (λ j. ltb (getD phase2Moves j 0) 1
 
 -- ---- co, eo and cp: of a solvable cube the arrangement of the number is its own
 
-twists-sum : (xs : List ℕ) → Under 3 xs → (total (λ x. (3 - x) % 3) xs + total (λ x. x) xs) % 3 ≡ 0
+pub twists-sum : (xs : List ℕ) → Under 3 xs → (total (λ x. (3 - x) % 3) xs + total (λ x. x) xs) % 3 ≡ 0
 twists-sum [] u = refl
 twists-sum (x ∷ xs) u =
     let h : x < 3 = u .0 in
@@ -104,11 +104,11 @@ cp-follows c r s d j h =
 -- ---- e_combo: a move takes the mask along
 
 -- two lists that agree at each place that q names
-compose-ext : {P : ℕ → Type 0} (xs ys : List ℕ) → ((i : ℕ) → P i → getD xs i 0 ≡ getD ys i 0) → (q : List ℕ) → Each P q → compose xs q ≡ compose ys q
+pub compose-ext : {P : ℕ → Type 0} (xs ys : List ℕ) → ((i : ℕ) → P i → getD xs i 0 ≡ getD ys i 0) → (q : List ℕ) → Each P q → compose xs q ≡ compose ys q
 compose-ext xs ys e [] u = refl
 compose-ext xs ys e (i ∷ q) u = ap₂ _∷_ (e i (u .0)) (compose-ext xs ys e q (u .1))
 
-mask-compose : (n : ℕ) (xs : List ℕ) → length xs ≡ n → (q : List ℕ) → Under n q → mask (compose xs q) ≡ compose (mask xs) q
+pub mask-compose : (n : ℕ) (xs : List ℕ) → length xs ≡ n → (q : List ℕ) → Under n q → mask (compose xs q) ≡ compose (mask xs) q
 mask-compose n xs l [] u = refl
 mask-compose n xs l (i ∷ q) u = ap₂ _∷_ (sym (map-at (λ x. less x 4) xs i (omega (arith, u .0)))) (mask-compose n xs l q (u .1))
 
@@ -132,7 +132,7 @@ e-combo-follows c r s d j h = e-combo-after c r s (getD allMoves j 0) (phase1-co
 
 -- the places after the fourth hold each of 4 to 11 once
 module _ (xs : List ℕ) (p : Perm 12 xs) (m : Under 4 (take 4 xs)) where
-  front : Perm 4 (take 4 xs)
+  pub front : Perm 4 (take 4 xs)
   front = record { size = simp length-take (omega (arith, p .size)); small = m; once = λ a. omega (arith, p .once a, parted a) }
     where
       parted : (a : ℕ) → total (same a) (take 4 xs) + total (same a) (drop 4 xs) ≡ total (same a) xs
@@ -146,10 +146,10 @@ module _ (xs : List ℕ) (p : Perm 12 xs) (m : Under 4 (take 4 xs)) where
   rest-length : length (drop 4 xs) ≡ 8
   rest-length = simp length-drop (omega (arith, p .size))
 
-  lowered : List ℕ
+  pub lowered : List ℕ
   lowered = map (λ y. y - 4) (drop 4 xs)
 
-  lowered-back : map (λ x. 4 + x) lowered ≡ drop 4 xs
+  pub lowered-back : map (λ x. 4 + x) lowered ≡ drop 4 xs
   unfolding lowered
   lowered-back = go (drop 4 xs) (omega (arith, rest-fills 4))
     where
@@ -157,7 +157,7 @@ module _ (xs : List ℕ) (p : Perm 12 xs) (m : Under 4 (take 4 xs)) where
       go [] z = refl
       go (y ∷ ys) z = ap₂ _∷_ (omega (arith, less-is y 4)) (go ys (omega (arith, less-is y 4)))
 
-  lowered-perm : Perm 8 lowered
+  pub lowered-perm : Perm 8 lowered
   lowered-perm = fills-perm (sym (length-map lowered (λ x. 4 + x)) ∙ ap length lowered-back ∙ rest-length) fills
     where
       fills : Fills 0 8 lowered
@@ -166,15 +166,16 @@ module _ (xs : List ℕ) (p : Perm 12 xs) (m : Under 4 (take 4 xs)) where
           total-map (λ x. less x (4 + d)) (λ x. 4 + x) lowered ∙ total-ext (λ x. add-mono 4 x d) lowered in
           omega (arith, e, ap (below (4 + d)) lowered-back, rest-fills (4 + d))
 
-  -- so the arrangement of the number of the eight places has them, and that of the four has those
-  pub ud-own : drop 4 (udEpOf (udEpNumber xs)) ≡ drop 4 xs
-  ud-own =
-      let n : udEpNumber xs ≡ number lowered =
-      ap number (take-all 8 (drop 4 xs) (omega (arith, rest-length)) ∙ sym lowered-back) ∙ number-map (λ x. 4 + x) (add-mono 4) lowered in
-      ap (λ (v : ℕ). map (λ x. 4 + x) (permOf 8 v)) n ∙ ap (map (λ x. 4 + x)) (permOf-number 8 lowered lowered-perm) ∙ lowered-back
+-- so the arrangement of the number of the eight places has them, and that of the four has those
+pub eight-own : (xs zs : List ℕ) → Perm 8 zs → drop 4 xs ≡ map (λ x. 4 + x) zs → drop 4 (udEpOf (udEpNumber xs)) ≡ drop 4 xs
+eight-own xs zs p e =
+    let l : length (map (λ x. 4 + x) zs) ≡ 8 = length-map zs (λ x. 4 + x) ∙ p .size in
+    let n : udEpNumber xs ≡ number zs =
+    ap (λ (l : List ℕ). number (take 8 l)) e ∙ ap number (take-all 8 (map (λ x. 4 + x) zs) (omega arith)) ∙ number-map (λ x. 4 + x) (add-mono 4) zs in
+    ap (λ (v : ℕ). map (λ x. 4 + x) (permOf 8 v)) n ∙ ap (map (λ x. 4 + x)) (permOf-number 8 zs p) ∙ sym e
 
-  pub e-own : take 4 (eEpOf (eEpNumber xs)) ≡ take 4 xs
-  e-own = e-places (eEpNumber xs) ∙ permOf-number 4 (take 4 xs) front
+pub four-own : (xs : List ℕ) → Perm 4 (take 4 xs) → take 4 (eEpOf (eEpNumber xs)) ≡ take 4 xs
+four-own xs p = e-places (eEpNumber xs) ∙ permOf-number 4 (take 4 xs) p
 
 -- the ten moves keep the middle layer's four places apart from the other eight
 outside : List ℕ → Bool
@@ -194,50 +195,65 @@ unfolding apart outside moveOf power product twisted quarterTurns solvedCube
 all-apart = refl
 
 module _ (j : ℕ) (h : j < 10) where
-  stays-inside : Under 4 (take 4 (moveOf (getD phase2Moves j 0) .ep))
+  pub stays-inside : Under 4 (take 4 (moveOf (getD phase2Moves j 0) .ep))
   unfolding apart
   stays-inside = inRange-under 4 (take 4 (moveOf (getD phase2Moves j 0) .ep)) (and-true (inRange 4 (take 4 (moveOf (getD phase2Moves j 0) .ep))) _ (below-true apart 10 all-apart j h) .0)
 
-  stays-outside : Each (λ x. 4 ≤ x) (drop 4 (moveOf (getD phase2Moves j 0) .ep))
+  pub stays-outside : Each (λ x. 4 ≤ x) (drop 4 (moveOf (getD phase2Moves j 0) .ep))
   unfolding apart
   stays-outside = outside-each (drop 4 (moveOf (getD phase2Moves j 0) .ep)) (and-true (inRange 4 (take 4 (moveOf (getD phase2Moves j 0) .ep))) _ (below-true apart 10 all-apart j h) .1)
 
-map-drop : (f : ℕ → ℕ) (n : ℕ) (q : List ℕ) → drop n (map f q) ≡ map f (drop n q)
+pub map-drop : (f : ℕ → ℕ) (n : ℕ) (q : List ℕ) → drop n (map f q) ≡ map f (drop n q)
 map-drop f zero q = refl
 map-drop f (suc n) [] = refl
 map-drop f (suc n) (x ∷ q) = map-drop f n q
 
-map-take : (f : ℕ → ℕ) (n : ℕ) (q : List ℕ) → take n (map f q) ≡ map f (take n q)
+pub map-take : (f : ℕ → ℕ) (n : ℕ) (q : List ℕ) → take n (map f q) ≡ map f (take n q)
 map-take f zero q = refl
 map-take f (suc n) [] = refl
 map-take f (suc n) (x ∷ q) = ap (_∷_ (f x)) (map-take f n q)
 
-drop-at-place : (xs : List ℕ) (i : ℕ) → 4 ≤ i → getD xs i 0 ≡ getD (drop 4 xs) (i - 4) 0
+pub drop-at-place : (xs : List ℕ) (i : ℕ) → 4 ≤ i → getD xs i 0 ≡ getD (drop 4 xs) (i - 4) 0
 drop-at-place xs i h = let e : 4 + (i - 4) ≡ i = omega arith in sym (getD-drop 4 xs (i - 4) 0 ∙ ap (λ (k : ℕ). getD xs k 0) e)
 
+-- ud_ep and e_ep after one of them
+module _ (c : CubieCube) (j : ℕ) (h : j < 10) where
+  pub ud-after : drop 4 (udEpOf (coordinate udEp c)) ≡ drop 4 (c .ep) → coordinate udEp (turn c (getD phase2Moves j 0)) ≡ after udEp (coordinate udEp c) (getD phase2Moves j 0)
+  unfolding product
+  ud-after own =
+      let q = moveOf (getD phase2Moves j 0) .ep in
+      let xs = c .ep in
+      let ws = udEpOf (udEpNumber xs) in
+      ap (λ (l : List ℕ). number (take 8 l))
+      (map-drop (λ i. getD xs i 0) 4 q
+      ∙ compose-ext xs ws (λ i k. drop-at-place xs i k ∙ ap (λ (l : List ℕ). getD l (i - 4) 0) (sym own) ∙ sym (drop-at-place ws i k)) (drop 4 q) (stays-outside j h)
+      ∙ sym (map-drop (λ i. getD ws i 0) 4 q))
+
+  pub e-after : take 4 (eEpOf (coordinate eEp c)) ≡ take 4 (c .ep) → coordinate eEp (turn c (getD phase2Moves j 0)) ≡ after eEp (coordinate eEp c) (getD phase2Moves j 0)
+  unfolding product
+  e-after own =
+      let q = moveOf (getD phase2Moves j 0) .ep in
+      let xs = c .ep in
+      let ws = eEpOf (eEpNumber xs) in
+      ap number
+      (map-take (λ i. getD xs i 0) 4 q
+      ∙ compose-ext xs ws (λ i k. sym (getD-take 4 xs i 0 k) ∙ ap (λ (l : List ℕ). getD l i 0) (sym own) ∙ getD-take 4 ws i 0 k) (take 4 q) (stays-inside j h)
+      ∙ sym (map-take (λ i. getD ws i 0) 4 q))
+
+module _ (c : CubieCube) (r : InRange c) (s : solvable c ≡ true) (m : Under 4 (take 4 (c .ep))) where
+  pub ud-own : drop 4 (udEpOf (udEpNumber (c .ep))) ≡ drop 4 (c .ep)
+  ud-own =
+      let p = parts c r s .edges in
+      eight-own (c .ep) (lowered (c .ep) p m) (lowered-perm (c .ep) p m) (sym (lowered-back (c .ep) p m))
+
+  pub e-own : take 4 (eEpOf (eEpNumber (c .ep))) ≡ take 4 (c .ep)
+  e-own = four-own (c .ep) (front (c .ep) (parts c r s .edges) m)
+
 pub ud-ep-follows : Follows udEp phase2Moves InPhase2
-unfolding product
-ud-ep-follows c r s d j h =
-    let q = moveOf (getD phase2Moves j 0) .ep in
-    let xs = c .ep in
-    let ws = udEpOf (udEpNumber xs) in
-    let own : drop 4 ws ≡ drop 4 xs = ud-own xs (parts c r s .edges) (d .middle) in
-    ap (λ (l : List ℕ). number (take 8 l))
-    (map-drop (λ i. getD xs i 0) 4 q
-    ∙ compose-ext xs ws (λ i k. drop-at-place xs i k ∙ ap (λ (l : List ℕ). getD l (i - 4) 0) (sym own) ∙ sym (drop-at-place ws i k)) (drop 4 q) (stays-outside j h)
-    ∙ sym (map-drop (λ i. getD ws i 0) 4 q))
+ud-ep-follows c r s d j h = ud-after c j h (ud-own c r s (d .middle))
 
 pub e-ep-follows : Follows eEp phase2Moves InPhase2
-unfolding product
-e-ep-follows c r s d j h =
-    let q = moveOf (getD phase2Moves j 0) .ep in
-    let xs = c .ep in
-    let ws = eEpOf (eEpNumber xs) in
-    let own : take 4 ws ≡ take 4 xs = e-own xs (parts c r s .edges) (d .middle) in
-    ap number
-    (map-take (λ i. getD xs i 0) 4 q
-    ∙ compose-ext xs ws (λ i k. sym (getD-take 4 xs i 0 k) ∙ ap (λ (l : List ℕ). getD l i 0) (sym own) ∙ getD-take 4 ws i 0 k) (take 4 q) (stays-inside j h)
-    ∙ sym (map-take (λ i. getD ws i 0) 4 q))
+e-ep-follows c r s d j h = e-after c j h (e-own c r s (d .middle))
 
 -- ---- co, eo and e_combo are 0 exactly in phase 2's domain
 
@@ -312,10 +328,9 @@ zero-solved : (c : CubieCube) → InRange c → solvable c ≡ true → InPhase2
     → coordinate cp c ≡ 0 → coordinate udEp c ≡ 0 → coordinate eEp c ≡ 0 → c ≡ solvedCube
 unfolding permOf bump solvedCube
 zero-solved c r s d a b e =
-    let p = parts c r s .edges in
     cube-path (sym (cp-own c r s) ∙ ap cpOf a) (d .twists)
     (sym (take-append-drop 4 (c .ep))
-    ∙ ap₂ _++_ (sym (e-own (c .ep) p (d .middle)) ∙ ap (λ (n : ℕ). take 4 (eEpOf n)) e) (sym (ud-own (c .ep) p (d .middle)) ∙ ap (λ (n : ℕ). drop 4 (udEpOf n)) b))
+    ∙ ap₂ _++_ (sym (e-own c r s (d .middle)) ∙ ap (λ (n : ℕ). take 4 (eEpOf n)) e) (sym (ud-own c r s (d .middle)) ∙ ap (λ (n : ℕ). drop 4 (udEpOf n)) b))
     (d .flips)
 
 abbrev pub AllZero : CubieCube → Type 0

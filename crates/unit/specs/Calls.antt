@@ -1,13 +1,13 @@
 -- What a call of the C interface returns and leaves in the lent bytes. Assumes nothing: these are definitions.
 use mathlib.Core.Path.{_≡_}
 use mathlib.Core.Bool.{Bool, _&&_}
-use mathlib.Core.List.{List, [], _∷_, _++_}
+use mathlib.Core.List.{List, [], _∷_}
 use Prim.Native.Nat.{ℕ}
 use lib.Dec.{eqb}
 use lib.ListN.{length, take, drop}
 use Rattle.base.specs.Lists.{pick}
 use Rattle.cubie.specs.Answers.{mulAnswer, moveAnswer, movesAnswer, solvedAnswer, solvableAnswer, ofTwo, inverseMoveAnswer}
-use Rattle.cubie.specs.Cube.{refusalOf}
+use Rattle.cubie.specs.Cube.{refusalOf, bytesOf}
 use Rattle.cubie.specs.Solvable.{cornerTwist, edgeTwist, cornerPerm, edgePerm}
 use Rattle.cubie.specs.declared.Answer.{Answer}
 use Rattle.cubie.specs.declared.Answer.the-variants.{Yes, No, Refused}
@@ -18,7 +18,6 @@ use Rattle.cubie.specs.declared.Number.the-variants as number
 use Rattle.cubie.specs.declared.Verdict.{Verdict}
 use Rattle.cubie.specs.declared.Verdict.the-variants as verdict
 use Rattle.facelet.specs.Picture.{pictureAnswer}
-use Rattle.facelet.specs.Reader.{readPlain, readStrict}
 use Rattle.facelet.specs.declared.FaceAnswer.{FaceAnswer}
 
 -- the number that a call returns, and the lent bytes after it
@@ -40,9 +39,6 @@ leave bytes = record { number = 0; bytes = bytes }
 -- a cube as 40 bytes: cp 8, co 8, ep 12, eo 12
 abbrev pub cubeOf : List ℕ → CubieCube
 cubeOf s = record { cp = take 8 s; co = take 8 (drop 8 s); ep = take 12 (drop 16 s); eo = take 12 (drop 28 s) }
-
-abbrev pub bytesOf : CubieCube → List ℕ
-bytesOf c = ((c .cp ++ c .co) ++ c .ep) ++ c .eo
 
 -- the number and the value of each case of an answer
 abbrev pub verdictLeft : Verdict → CubieCube → List ℕ → Left

@@ -1,7 +1,7 @@
 // Cubes and answers as lent bytes.
 ghost use mathlib.Core.Path.{_≡_};
 ghost use lib.ListN.{length};
-ghost use Rattle.unit.specs.Calls.{cubeOf, bytesOf, Leaves, cubeLeft, faceLeft, answerLeft, numberLeft};
+ghost use Rattle.unit.specs.Calls.{cubeOf, Leaves, cubeLeft, faceLeft, answerLeft, numberLeft};
 use cubie::Answer;
 use cubie::CubeAnswer;
 use cubie::CubieCube;
@@ -26,21 +26,6 @@ pub(crate) fn cube_of(s: &[u8]) -> CubieCube
     CubieCube { cp, co, ep, eo }
 }
 
-// The 40 bytes of a cube.
-fn put_cube(c: CubieCube, out: &mut [u8])
-    requires { ⌜ length (now out) ≡ 40 ⌝ }
-    ensures { λ r. ⌜ now (out .exit) ≡ bytesOf c ⌝ }
-{
-    let cp = c.cp;
-    inner::copy_in(&cp, out, 0);
-    let co = c.co;
-    inner::copy_in(&co, out, 8);
-    let ep = c.ep;
-    inner::copy_in(&ep, out, 16);
-    let eo = c.eo;
-    inner::copy_in(&eo, out, 28);
-}
-
 // The number of an answer; its cube is written, unless it is refused.
 pub(crate) fn leave_cube(a: CubeAnswer, out: &mut [u8]) -> u8
     requires { ⌜ length (now out) ≡ 40 ⌝ }
@@ -51,7 +36,7 @@ pub(crate) fn leave_cube(a: CubeAnswer, out: &mut [u8]) -> u8
         Verdict::Refused(n) => n,
         Verdict::Good => {
             let cube = a.cube;
-            put_cube(cube, out);
+            inner::put_cube(cube, out);
             0
         }
     }

@@ -1,4 +1,4 @@
--- `unit::lent::put_cube` meets its contract: each part stands behind those before it. Assumes nothing.
+-- `cubie::inner::put_cube` meets its contract: each part stands behind those before it. Assumes nothing.
 use mathlib.Core.Path.{_≡_, refl, sym, ap, _∙_}
 use mathlib.Core.List.{List, [], _++_, append-nil}
 use Prim.Native.Nat.{ℕ, _+_, _≤_}
@@ -6,10 +6,10 @@ use native.Mathlib.Omega.{arith}
 use denote.Ref.{now}
 use lib.ListN.{length, drop, length-append, drop-of-length-le}
 use Rattle.base.proofs.Steps.{paste-next}
-use Rattle.unit.specs.Calls.{bytesOf}
+use Rattle.cubie.specs.Cube.{bytesOf}
 use borrow.Author.Needs.{needs}
-use Rattle.unit.proofs.lent.put_cube.Statement.{statement}
-use Rattle.unit.proofs.lent.put_cube.Tie as tie
+use Rattle.cubie.proofs.inner.put_cube.Statement.{statement}
+use Rattle.cubie.proofs.inner.put_cube.Tie as tie
 
 slice-aggregate-copy-in : tie.Need-slice-aggregate-copy-in
 slice-aggregate-copy-in c = search needs
