@@ -1,0 +1,9 @@
+pub mod After
+pub mod Block
+pub mod Cubes
+pub mod Entries
+pub mod Offs
+pub mod Rows
+pub mod Six
+pub mod Sizes
+pub mod Undone

@@ -1,0 +1,7 @@
+pub mod Bfs
+pub mod Laws
+pub mod PairRule
+pub mod Parts
+pub mod Steps
+pub mod Ten
+pub mod Truth

@@ -1,0 +1,304 @@
+// The builder and the rule of the check at any counts, which other crates call, and the loops under them.
+ghost use mathlib.Core.Path.{_≡_};
+ghost use mathlib.Core.Bool.{false};
+ghost use Prim.Native.Nat.{_+_, _*_, _≤_, _<_};
+ghost use lib.ListN.{length, getD, replicate};
+ghost use Rattle.base.specs.Lists.{Under};
+ghost use Rattle.pruning_table.specs.Pairs.{next, held, Fine};
+ghost use Rattle.pruning_table.specs.Tables.{Counts, TableSizes, Ready};
+ghost use Rattle.pruning_table.specs.Answers.{Decides, Tells, Unreached255, Layer, Expanded, Outcome};
+ghost use Rattle.pruning_table.specs.Check.{beginsAt, firstOf, secondOf, entries, MoveFine, PruneFine, FineAt, Blocks};
+use crate::Built;
+use crate::CO_E_AT;
+use crate::CP_E_AT;
+use crate::EO_E_AT;
+use crate::EP_E_AT;
+use crate::Rule;
+use move_table::CO_AT;
+use move_table::CP_AT;
+use move_table::E_COMBO_AT;
+use move_table::E_EP_AT;
+use move_table::EO_AT;
+use move_table::UD_EP_AT;
+use move_table::inner::columns_of;
+use move_table::inner::rows_of;
+
+// The pair after move m of the pair (i, j).
+fn neighbour(t1: &[u16], t2: &[u16], n2: usize, k: usize, i: usize, j: usize, m: usize) -> usize
+    requires { ⌜ (i * k + m < length (now t1)) × (j * k + m < length (now t2)) × (n2 ≤ 65536) ⌝ }
+    ensures { λ r. ⌜ r ≡ getD (now (t1 .entry)) (i * k + m) 0 * n2 + getD (now (t2 .entry)) (j * k + m) 0 ⌝ }
+{
+    let a = t1[i * k + m] as usize;
+    let b = t2[j * k + m] as usize;
+    a * n2 + b
+}
+
+// ---- the rule of the check
+
+// What the table holds at q: 255 past its end, so that no entry of a move table leads out of it.
+fn held_at(tab: &[u8], q: usize) -> u8
+    ensures { λ r. ⌜ r ≡ held (now (tab .entry)) q ⌝ }
+{
+    if q < tab.len() { tab[q] } else { 255 }
+}
+
+// Whether the rule holds at pair p.
+fn pair_fine(t1: &[u16], t2: &[u16], tab: &[u8], n1: usize, n2: usize, k: usize, p: usize) -> bool
+    requires { ⌜ Counts n1 n2 k ⌝ }
+    requires { ⌜ TableSizes (now t1) (now t2) (now tab) n1 n2 k ⌝ }
+    requires { ⌜ p < n1 * n2 ⌝ }
+    ensures { λ r. ⌜ Decides (Fine (next (now (t1 .entry)) (now (t2 .entry)) n2 k) k (held (now (tab .entry))) p) r ⌝ }
+{
+    let v = tab[p];
+    if p == 0 {
+        return v == 0;
+    }
+    if v == 0 {
+        return false;
+    }
+    let i = p / n2;
+    let j = p % n2;
+    let mut one = false;
+    for m in 0..k {
+        let w = held_at(tab, neighbour(t1, t2, n2, k, i, j, m));
+        if w < v - 1 {
+            return false;
+        }
+        if w == v - 1 {
+            one = true;
+        }
+    }
+    one
+}
+
+// The lowest pair at which the rule fails. The entries of the move tables are anybody's.
+pub fn first_bad(t1: &[u16], t2: &[u16], tab: &[u8], n1: usize, n2: usize, k: usize) -> Rule
+    requires { ⌜ Counts n1 n2 k ⌝ }
+    requires { ⌜ TableSizes (now t1) (now t2) (now tab) n1 n2 k ⌝ }
+    ensures { λ r. ⌜ Tells (Fine (next (now (t1 .entry)) (now (t2 .entry)) n2 k) k (held (now (tab .entry)))) (n1 * n2) r ⌝ }
+{
+    for p in 0..tab.len() {
+        if !pair_fine(t1, t2, tab, n1, n2, k, p) {
+            return Rule::Fails(p);
+        }
+    }
+    Rule::Holds
+}
+
+// ---- the builder
+
+// Whether every entry of a move table is below its count.
+fn all_below(t: &[u16], n: usize) -> bool
+    ensures { λ r. ⌜ Decides (Under n (now (t .entry))) r ⌝ }
+{
+    for i in 0..t.len() {
+        if n <= t[i] as usize {
+            return false;
+        }
+    }
+    true
+}
+
+// Every entry becomes 255.
+fn clear(tab: &mut [u8])
+    ensures { λ _. ⌜ now (tab .exit) ≡ replicate (length (now (tab .entry))) 255 ⌝ }
+{
+    for p in 0..tab.len() {
+        tab[p] = 255;
+    }
+}
+
+// Whether some entry is 255.
+fn some_unreached(tab: &[u8]) -> bool
+    ensures { λ r. ⌜ Decides (Unreached255 (now (tab .entry))) r ⌝ }
+{
+    for p in 0..tab.len() {
+        if tab[p] == 255 {
+            return true;
+        }
+    }
+    false
+}
+
+// Each neighbour of pair p that holds 255 gets d.
+fn expand(t1: &[u16], t2: &[u16], tab: &mut [u8], n1: usize, n2: usize, k: usize, p: usize, d: u8)
+    requires { ⌜ Ready (now t1) (now t2) (now tab) n1 n2 k ⌝ }
+    requires { ⌜ p < n1 * n2 ⌝ }
+    ensures { λ _. ⌜ length (now (tab .exit)) ≡ length (now (tab .entry)) ⌝ }
+    ensures { λ _. ⌜ Expanded (next (now (t1 .entry)) (now (t2 .entry)) n2 k) p d k (now (tab .entry)) (now (tab .exit)) ⌝ }
+{
+    let i = p / n2;
+    let j = p % n2;
+    for m in 0..k {
+        let q = neighbour(t1, t2, n2, k, i, j, m);
+        if tab[q] == 255 {
+            tab[q] = d;
+        }
+    }
+}
+
+// Expands every pair at distance d, and says whether there was one. What is found holds d + 1, so it waits for the next sweep.
+fn sweep(t1: &[u16], t2: &[u16], tab: &mut [u8], n1: usize, n2: usize, k: usize, d: u8) -> bool
+    requires { ⌜ Ready (now t1) (now t2) (now tab) n1 n2 k ⌝ }
+    requires { ⌜ d < 254 ⌝ }
+    requires { ⌜ Layer (next (now t1) (now t2) n2 k) k (n1 * n2) d (now tab) ⌝ }
+    ensures { λ _. ⌜ length (now (tab .exit)) ≡ length (now (tab .entry)) ⌝ }
+    ensures { λ _. ⌜ Layer (next (now (t1 .entry)) (now (t2 .entry)) n2 k) k (n1 * n2) (d + 1) (now (tab .exit)) ⌝ }
+    ensures { λ r. ⌜ (r ≡ false → now (tab .exit) ≡ now (tab .entry)) ⌝ }
+{
+    let mut met = false;
+    for p in 0..tab.len() {
+        if tab[p] == d {
+            expand(t1, t2, tab, n1, n2, k, p, d + 1);
+            met = true;
+        }
+    }
+    met
+}
+
+// Sweeps for one distance after the other, while pairs are found.
+fn flood(t1: &[u16], t2: &[u16], tab: &mut [u8], n1: usize, n2: usize, k: usize)
+    requires { ⌜ Ready (now t1) (now t2) (now tab) n1 n2 k ⌝ }
+    requires { ⌜ Layer (next (now t1) (now t2) n2 k) k (n1 * n2) 0 (now tab) ⌝ }
+    ensures { λ _. ⌜ length (now (tab .exit)) ≡ length (now (tab .entry)) ⌝ }
+    ensures { λ _. ⌜ Layer (next (now (t1 .entry)) (now (t2 .entry)) n2 k) k (n1 * n2) 254 (now (tab .exit)) ⌝ }
+{
+    for d in 0..254u8 {
+        if !sweep(t1, t2, tab, n1, n2, k, d) {
+            return;
+        }
+    }
+}
+
+// Every pair gets its least number of moves from pair 0, by the two move tables.
+pub fn get_prune_table(
+    t1: &[u16],
+    t2: &[u16],
+    tab: &mut [u8],
+    n1: usize,
+    n2: usize,
+    k: usize,
+) -> Built
+    requires { ⌜ Counts n1 n2 k ⌝ }
+    ensures { λ r. ⌜ Outcome (now (t1 .entry)) (now (t2 .entry)) n1 n2 k (now (tab .entry)) (now (tab .exit)) r ⌝ }
+{
+    if t1.len() != n1 * k {
+        return Built::Length;
+    }
+    if t2.len() != n2 * k {
+        return Built::Length;
+    }
+    if tab.len() != n1 * n2 {
+        return Built::Length;
+    }
+    if !all_below(t1, n1) {
+        return Built::Entry;
+    }
+    if !all_below(t2, n2) {
+        return Built::Entry;
+    }
+    clear(tab);
+    tab[0] = 0;
+    flood(t1, t2, tab, n1, n2, k);
+    if some_unreached(tab) {
+        return Built::Unreached;
+    }
+    Built::Done
+}
+
+// ---- the check of all ten
+
+// Where move table t begins in its block, and where pruning table t.
+fn move_begins(t: u8) -> usize
+    requires { ⌜ t < 6 ⌝ }
+    ensures { λ r. ⌜ r ≡ beginsAt t ⌝ }
+{
+    match t {
+        0 => CO_AT,
+        1 => EO_AT,
+        2 => E_COMBO_AT,
+        3 => CP_AT,
+        4 => UD_EP_AT,
+        _ => E_EP_AT,
+    }
+}
+
+fn prune_begins(t: u8) -> usize
+    requires { ⌜ (t < 10) × (6 ≤ t) ⌝ }
+    ensures { λ r. ⌜ r ≡ beginsAt t ⌝ }
+{
+    match t {
+        6 => CO_E_AT,
+        7 => EO_E_AT,
+        8 => CP_E_AT,
+        _ => EP_E_AT,
+    }
+}
+
+// The first move table of pruning table t, and the second.
+fn first_of(t: u8) -> u8
+    requires { ⌜ (t < 10) × (6 ≤ t) ⌝ }
+    ensures { λ r. ⌜ r ≡ firstOf t ⌝ }
+{
+    match t {
+        6 => 0,
+        7 => 1,
+        8 => 3,
+        _ => 4,
+    }
+}
+
+fn second_of(t: u8) -> u8
+    requires { ⌜ (t < 10) × (6 ≤ t) ⌝ }
+    ensures { λ r. ⌜ r ≡ secondOf t ⌝ }
+{
+    if t < 8 { 2 } else { 5 }
+}
+
+// The lowest entry of move table t that isn't true.
+fn check_move_table(t: u8, moves: &[u16]) -> Rule
+    requires { ⌜ (t < 6) × (length (now moves) ≡ 891780) ⌝ }
+    ensures { λ r. ⌜ Tells (MoveFine (now (moves .entry)) t) (entries t) r ⌝ }
+{
+    let at = move_begins(t);
+    let len = rows_of(t) * columns_of(t);
+    let e = move_table::inner::first_bad(t, &moves[at..at + len]);
+    if e < len {
+        return Rule::Fails(e);
+    }
+    Rule::Holds
+}
+
+// The lowest entry of pruning table t at which the rule fails, by the lent move tables.
+fn check_prune_table(t: u8, moves: &[u16], prunes: &[u8]) -> Rule
+    requires { ⌜ (t < 10) × (6 ≤ t) × Blocks (now moves) (now prunes) ⌝ }
+    ensures { λ r. ⌜ Tells (PruneFine (now (moves .entry)) (now (prunes .entry)) t) (entries t) r ⌝ }
+{
+    let a = first_of(t);
+    let b = second_of(t);
+    let k = columns_of(a);
+    let n1 = rows_of(a);
+    let n2 = rows_of(b);
+    let i = move_begins(a);
+    let j = move_begins(b);
+    let p = prune_begins(t);
+    first_bad(
+        &moves[i..i + n1 * k],
+        &moves[j..j + n2 * k],
+        &prunes[p..p + n1 * n2],
+        n1,
+        n2,
+        k,
+    )
+}
+
+// Table t by its own rule.
+pub(crate) fn check_table(t: u8, moves: &[u16], prunes: &[u8]) -> Rule
+    requires { ⌜ (t < 10) × Blocks (now moves) (now prunes) ⌝ }
+    ensures { λ r. ⌜ Tells (FineAt (now (moves .entry)) (now (prunes .entry)) t) (entries t) r ⌝ }
+{
+    if t < 6 {
+        return check_move_table(t, moves);
+    }
+    check_prune_table(t, moves, prunes)
+}

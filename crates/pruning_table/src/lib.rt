@@ -1,0 +1,92 @@
+// The pruning tables: kewb's src/two_phase/pruning.rs.
+ghost use Rattle.pruning_table.specs.Answers.{Outcome};
+ghost use Rattle.pruning_table.specs.Check.{Checks};
+use move_table::MOVES_LEN;
+
+pub mod inner;
+
+// The block of the four tables: where each begins, and its length.
+pub const CO_E_AT: usize = 0;
+
+pub const EO_E_AT: usize = 1082565;
+
+pub const CP_E_AT: usize = 2096325;
+
+pub const EP_E_AT: usize = 3064005;
+
+pub const PRUNES_LEN: usize = 4031685;
+
+// What a builder of a pruning table answers.
+pub enum Built {
+    Done,
+    // 10: a lent slice has the wrong length
+    Length,
+    // 11: an entry of a move table is not below its count
+    Entry,
+    // 14: some pair has no walk of at most 254 moves
+    Unreached,
+}
+
+// Whether the rule of the table check holds at every pair, or the lowest pair at which it fails.
+pub enum Rule {
+    Holds,
+    Fails(usize),
+}
+
+// What the check of all ten tables answers.
+pub enum Checked {
+    Good,
+    // 10: a block has the wrong length
+    Length,
+    // 13: the lowest table that isn't true, and its lowest bad entry
+    Bad(u8, usize),
+}
+
+// Table 6: the twists of the corners and the places of the middle layer's edges, by all moves.
+pub fn get_co_e_table(co: &[u16], e_combo: &[u16], table: &mut [u8]) -> Built
+    ensures { λ r. ⌜ Outcome (now (co .entry)) (now («e_combo» .entry)) 2187 495 18 (now (table .entry)) (now (table .exit)) r ⌝ }
+{
+    inner::get_prune_table(co, e_combo, table, 2187, 495, 18)
+}
+
+// Table 7: the flips of the edges and the places of the middle layer's edges, by all moves.
+pub fn get_eo_e_table(eo: &[u16], e_combo: &[u16], table: &mut [u8]) -> Built
+    ensures { λ r. ⌜ Outcome (now (eo .entry)) (now («e_combo» .entry)) 2048 495 18 (now (table .entry)) (now (table .exit)) r ⌝ }
+{
+    inner::get_prune_table(eo, e_combo, table, 2048, 495, 18)
+}
+
+// Table 8: the order of the corners and of the middle layer's edges, by the moves of phase 2.
+pub fn get_cp_e_table(cp: &[u16], e_ep: &[u16], table: &mut [u8]) -> Built
+    ensures { λ r. ⌜ Outcome (now (cp .entry)) (now («e_ep» .entry)) 40320 24 10 (now (table .entry)) (now (table .exit)) r ⌝ }
+{
+    inner::get_prune_table(cp, e_ep, table, 40320, 24, 10)
+}
+
+// Table 9: the order of the other eight edges and of the middle layer's, by the moves of phase 2.
+pub fn get_ep_e_table(ep: &[u16], e_ep: &[u16], table: &mut [u8]) -> Built
+    ensures { λ r. ⌜ Outcome (now (ep .entry)) (now («e_ep» .entry)) 40320 24 10 (now (table .entry)) (now (table .exit)) r ⌝ }
+{
+    inner::get_prune_table(ep, e_ep, table, 40320, 24, 10)
+}
+
+// The check of all ten tables: the lowest bad table, and its lowest bad entry.
+pub fn check_tables(moves: &[u16], prunes: &[u8]) -> Checked
+    ensures { λ r. ⌜ Checks (now (moves .entry)) (now (prunes .entry)) r ⌝ }
+{
+    if moves.len() != MOVES_LEN {
+        return Checked::Length;
+    }
+    if prunes.len() != PRUNES_LEN {
+        return Checked::Length;
+    }
+    let mut t: u8 = 0;
+    while t < 10 {
+        match inner::check_table(t, moves, prunes) {
+            Rule::Fails(e) => return Checked::Bad(t, e),
+            Rule::Holds => {}
+        }
+        t += 1;
+    }
+    Checked::Good
+}
