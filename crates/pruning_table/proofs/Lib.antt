@@ -1,4 +1,5 @@
 pub mod Bfs
+pub mod Cuts
 pub mod Laws
 pub mod PairRule
 pub mod Parts

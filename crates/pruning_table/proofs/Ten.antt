@@ -4,7 +4,7 @@ use mathlib.Core.List.{List}
 use mathlib.Core.Bool.{Bool, true, _&&_}
 use mathlib.Core.Logic.{_↔_, ⊎-elim}
 use Prim.Native.Nat.{ℕ, zero, suc, _+_, _*_, _≤_, _<_}
-use native.Mathlib.Nat.{le-antisymm}
+use native.Mathlib.Nat.{le-antisymm, mul-pos}
 use native.Mathlib.Omega.{arith}
 use lib.Dec.{ltb, leb}
 use lib.ListN.{length, getD, length-take, length-drop}
@@ -20,10 +20,11 @@ use Rattle.move_table.proofs.Rows.{table-length}
 use Rattle.move_table.proofs.Six.{by-table}
 use Rattle.pruning_table.specs.Check.{beginsAt, firstOf, secondOf, rows, entries, part, stepOf, FineAt, Blocks, Checks, AllTrue}
 use Rattle.pruning_table.specs.Pairs.{next, held, IsTrue, Fine}
-use Rattle.pruning_table.specs.Tables.{Counts, Inverses}
+use Rattle.pruning_table.specs.Tables.{Counts, Inverses, Closed, Undone}
 use Rattle.pruning_table.specs.declared.Checked.{Checked}
 use Rattle.pruning_table.specs.declared.Checked.the-variants as checked
-use Rattle.pruning_table.proofs.Laws.{table-law}
+use Rattle.pruning_table.proofs.Steps.{next-closed, next-undone}
+use Rattle.pruning_table.proofs.Truth.{check-law}
 
 -- a statement about each of the four pruning tables
 pub by-prune : (P : ℕ → Type 0) → P 6 → P 7 → P 8 → P 9 → (t : ℕ) → t < 10 → 6 ≤ t → P t
@@ -74,41 +75,91 @@ few n1 n2 k e =
 abbrev pub trueStep : ℕ → ℕ → ℕ → ℕ
 trueStep t = next (trueTable (tableAt (firstOf t))) (trueTable (tableAt (secondOf t))) (rows (secondOf t)) (columns (tableAt (firstOf t)))
 
-abbrev Right : ℕ → Type 0
-Right t = (tab : List ℕ) → length tab ≡ entries t
-    → ((p : ℕ) → p < entries t → Fine (trueStep t) (columns (tableAt (firstOf t))) (held tab) p)
-    ↔ IsTrue (trueStep t) (columns (tableAt (firstOf t))) (held tab) (entries t)
-
-right-of : (T1 T2 tab : List ℕ) (n1 n2 : ℕ) (moves : List ℕ) → Counts n1 n2 (length moves) → length T1 ≡ n1 * length moves → length T2 ≡ n2 * length moves
-    → length tab ≡ n1 * n2 → Under n1 T1 → Under n2 T2 → ((j : ℕ) → j < length moves → Back moves j) → Taken T1 n1 moves → Taken T2 n2 moves
-    → ((p : ℕ) → p < n1 * n2 → Fine (next T1 T2 n2 (length moves)) (length moves) (held tab) p)
-    ↔ IsTrue (next T1 T2 n2 (length moves)) (length moves) (held tab) (n1 * n2)
-right-of T1 T2 tab n1 n2 moves c l1 l2 l u1 u2 back a b =
-    table-law T1 T2 tab n1 n2 (length moves) (record { counts = c; sized = record { first = l1; second = l2; pairs = l }; below1 = u1; below2 = u2 })
-    (inverses-of T1 T2 n1 n2 moves back a b)
-
 abbrev T : ℕ → List ℕ
 T t = trueTable (tableAt t)
+
+-- the two true move tables of table t are as the builder asks for, and take each move back
+pub record Sound (t : ℕ) : Type 0 where
+  pub counts : Counts (rows (firstOf t)) (rows (secondOf t)) (columns (tableAt (firstOf t)))
+  pub first : length (T (firstOf t)) ≡ rows (firstOf t) * columns (tableAt (firstOf t))
+  pub second : length (T (secondOf t)) ≡ rows (secondOf t) * columns (tableAt (firstOf t))
+  pub small1 : Under (rows (firstOf t)) (T (firstOf t))
+  pub small2 : Under (rows (secondOf t)) (T (secondOf t))
+  pub inverses : Inverses (T (firstOf t)) (T (secondOf t)) (rows (firstOf t)) (rows (secondOf t)) (columns (tableAt (firstOf t)))
+  pub pairs : entries t ≡ rows (firstOf t) * rows (secondOf t)
 
 some-columns : (t : ℕ) → t < 6 → 0 < columns (tableAt t)
 some-columns = by-table (λ t. 0 < columns (tableAt t)) (omega arith) (omega arith) (omega arith) (omega arith) (omega arith) (omega arith)
 
-pub counts-of : (t : ℕ) → t < 10 → 6 ≤ t → Counts (rows (firstOf t)) (rows (secondOf t)) (columns (tableAt (firstOf t)))
-unfolding fit
-counts-of = by-prune (λ t. Counts (rows (firstOf t)) (rows (secondOf t)) (columns (tableAt (firstOf t))))
-    (few 2187 495 18 refl) (few 2048 495 18 refl) (few 40320 24 10 refl) (few 40320 24 10 refl)
-
 small : (t : ℕ) → t < 6 → Under (rows t) (T t)
 small t h = entries-small t h (some-columns t h)
 
-right : (t : ℕ) → t < 10 → 6 ≤ t → Right t
+pub sound : (t : ℕ) → t < 10 → 6 ≤ t → Sound t
 unfolding fit
-right =
-    by-prune Right
-    (λ tab l. right-of (T 0) (T 2) tab 2187 495 allMoves (few 2187 495 18 refl) (table-length (tableAt 0)) (table-length (tableAt 2)) l (small 0 (omega arith)) (small 2 (omega arith)) all-back (entry-back 0 (omega arith)) (entry-back 2 (omega arith)))
-    (λ tab l. right-of (T 1) (T 2) tab 2048 495 allMoves (few 2048 495 18 refl) (table-length (tableAt 1)) (table-length (tableAt 2)) l (small 1 (omega arith)) (small 2 (omega arith)) all-back (entry-back 1 (omega arith)) (entry-back 2 (omega arith)))
-    (λ tab l. right-of (T 3) (T 5) tab 40320 24 phase2Moves (few 40320 24 10 refl) (table-length (tableAt 3)) (table-length (tableAt 5)) l (small 3 (omega arith)) (small 5 (omega arith)) phase2-back (entry-back 3 (omega arith)) (entry-back 5 (omega arith)))
-    (λ tab l. right-of (T 4) (T 5) tab 40320 24 phase2Moves (few 40320 24 10 refl) (table-length (tableAt 4)) (table-length (tableAt 5)) l (small 4 (omega arith)) (small 5 (omega arith)) phase2-back (entry-back 4 (omega arith)) (entry-back 5 (omega arith)))
+sound =
+    by-prune Sound
+    (record {
+      counts = few 2187 495 18 refl;
+      first = table-length (tableAt 0);
+      second = table-length (tableAt 2);
+      small1 = small 0 (omega arith);
+      small2 = small 2 (omega arith);
+      inverses = inverses-of (T 0) (T 2) 2187 495 allMoves all-back (entry-back 0 (omega arith)) (entry-back 2 (omega arith));
+      pairs = refl;
+    })
+    (record {
+      counts = few 2048 495 18 refl;
+      first = table-length (tableAt 1);
+      second = table-length (tableAt 2);
+      small1 = small 1 (omega arith);
+      small2 = small 2 (omega arith);
+      inverses = inverses-of (T 1) (T 2) 2048 495 allMoves all-back (entry-back 1 (omega arith)) (entry-back 2 (omega arith));
+      pairs = refl;
+    })
+    (record {
+      counts = few 40320 24 10 refl;
+      first = table-length (tableAt 3);
+      second = table-length (tableAt 5);
+      small1 = small 3 (omega arith);
+      small2 = small 5 (omega arith);
+      inverses = inverses-of (T 3) (T 5) 40320 24 phase2Moves phase2-back (entry-back 3 (omega arith)) (entry-back 5 (omega arith));
+      pairs = refl;
+    })
+    (record {
+      counts = few 40320 24 10 refl;
+      first = table-length (tableAt 4);
+      second = table-length (tableAt 5);
+      small1 = small 4 (omega arith);
+      small2 = small 5 (omega arith);
+      inverses = inverses-of (T 4) (T 5) 40320 24 phase2Moves phase2-back (entry-back 4 (omega arith)) (entry-back 5 (omega arith));
+      pairs = refl;
+    })
+
+pub counts-of : (t : ℕ) → t < 10 → 6 ≤ t → Counts (rows (firstOf t)) (rows (secondOf t)) (columns (tableAt (firstOf t)))
+counts-of t h k = sound t h k .counts
+
+-- the true step leads to pairs, and is undone
+module _ (t : ℕ) (h : t < 10) (k : 6 ≤ t) where
+  s : Sound t
+  s = sound t h k
+
+  pub closed-of : Closed (trueStep t) (columns (tableAt (firstOf t))) (entries t)
+  closed-of =
+      subst (Closed (trueStep t) (columns (tableAt (firstOf t)))) (sym (s .pairs))
+      (next-closed (T (firstOf t)) (T (secondOf t)) (rows (firstOf t)) (rows (secondOf t)) (columns (tableAt (firstOf t))) (s .counts .pos2) (s .first) (s .second) (s .small1) (s .small2))
+
+  pub undone-of : Undone (trueStep t) (columns (tableAt (firstOf t))) (entries t)
+  undone-of =
+      subst (Undone (trueStep t) (columns (tableAt (firstOf t)))) (sym (s .pairs))
+      (next-undone (T (firstOf t)) (T (secondOf t)) (rows (firstOf t)) (rows (secondOf t)) (columns (tableAt (firstOf t))) (s .counts .pos2) (s .first) (s .second) (s .small1) (s .small2) (s .inverses))
+
+  -- so the rule holds at every pair exactly where the table is true
+  right : (tab : List ℕ) → length tab ≡ entries t
+      → ((p : ℕ) → p < entries t → Fine (trueStep t) (columns (tableAt (firstOf t))) (held tab) p)
+      ↔ IsTrue (trueStep t) (columns (tableAt (firstOf t))) (held tab) (entries t)
+  right tab l =
+      check-law (trueStep t) (columns (tableAt (firstOf t))) (entries t)
+      (subst (λ (n : ℕ). 0 < n) (sym (s .pairs)) (mul-pos (s .counts .pos1) (s .counts .pos2))) closed-of undone-of (held tab)
 
 -- ---- the parts of the blocks
 
