@@ -25,16 +25,21 @@ build_oracle() {
     fi
 }
 
-# build_driver: proves the product's library, or takes the one in UNIT_LIB, and links the driver with it.
-build_driver() {
-    need cargo "the driver is built with Rust's cargo"
-    need nm "it says which functions the library has"
+# build_library: proves the product's library, or takes the one in UNIT_LIB.
+build_library() {
     if [ -z "${UNIT_LIB:-}" ]; then
         need rt "the product's library is made by 'rt staticlib unit'"
         (cd "$ROOT" && rt staticlib unit) >&2 || die "rt staticlib unit failed"
         UNIT_LIB=$ROOT/target/staticlib/libunit.a
     fi
     [ -f "$UNIT_LIB" ] || die "no library $UNIT_LIB"
+}
+
+# build_driver: links the driver with the product's library.
+build_driver() {
+    need cargo "the driver is built with Rust's cargo"
+    need nm "it says which functions the library has"
+    build_library
     UNIT_LIB=$(realpath "$UNIT_LIB") cargo build --quiet --release --offline --locked \
         --manifest-path "$ORACLE/Cargo.toml" --target-dir "$OUT/driver" || die "the driver doesn't build"
     DRIVER=$OUT/driver/release/driver

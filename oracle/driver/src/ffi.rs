@@ -1,5 +1,5 @@
 //! The product's C interface and safe calls of it. Every function gives the paper's refusal number, 0 for none.
-use crate::lent::{lend, lend_bytes, lend_list, lend_number, lend_text, Outcome};
+use crate::lent::{lend, lend_bytes, lend_list, lend_moves, lend_number, lend_table, lend_text, Outcome};
 use wire::Cube;
 
 extern "C" {
@@ -28,6 +28,29 @@ extern "C" {
     fn tsunghawi_judge(input: *const u8, input_len: usize, out: *mut u8, out_len: usize, count: *mut usize) -> u8;
     fn tsunghawi_arrangement_to_index(kind: u8, places: *const u8, places_len: usize, index: *mut u32) -> u8;
     fn tsunghawi_index_to_arrangement(kind: u8, index: u32, places: *mut u8, places_len: usize) -> u8;
+    fn tsunghawi_get_move_tables(moves: *mut u16, moves_len: usize) -> u8;
+    fn tsunghawi_get_prune_tables(moves: *const u16, moves_len: usize, prunes: *mut u8, prunes_len: usize) -> u8;
+    fn tsunghawi_get_prune_table(
+        table: u8,
+        first: *const u16,
+        first_len: usize,
+        second: *const u16,
+        second_len: usize,
+        out: *mut u8,
+        out_len: usize,
+    ) -> u8;
+    fn tsunghawi_get_pairs_table(
+        first: *const u16,
+        first_len: usize,
+        second: *const u16,
+        second_len: usize,
+        out: *mut u8,
+        out_len: usize,
+        rows1: usize,
+        rows2: usize,
+        moves: usize,
+    ) -> u8;
+    fn tsunghawi_check_tables(moves: *const u16, moves_len: usize, prunes: *const u8, prunes_len: usize) -> u64;
 }
 
 // SAFETY of every call below: pointers and lengths are those of live slices, and the lenders give memory of that length.
@@ -108,4 +131,41 @@ pub fn arrangement_to_index(kind: u8, places: &[u8]) -> Outcome<u32> {
 /// The array of a coordinate's number, of so many places.
 pub fn index_to_arrangement(kind: u8, index: u32, places: usize) -> Outcome<Vec<u8>> {
     lend_bytes(places, |out, n| unsafe { tsunghawi_index_to_arrangement(kind, index, out, n) })
+}
+
+/// The block of all six move tables.
+pub fn get_move_tables(length: usize) -> Outcome<(u8, Vec<u16>)> {
+    lend_moves(length, |out, n| unsafe { tsunghawi_get_move_tables(out, n) })
+}
+
+/// The block of all four pruning tables.
+pub fn get_prune_tables(moves: &[u16], length: usize) -> Outcome<(u8, Vec<u8>)> {
+    lend_table(length, |out, n| unsafe { tsunghawi_get_prune_tables(moves.as_ptr(), moves.len(), out, n) })
+}
+
+/// Pruning table 6 to 9 over two move tables.
+pub fn get_prune_table(table: u8, first: &[u16], second: &[u16], length: usize) -> Outcome<(u8, Vec<u8>)> {
+    lend_table(length, |out, n| unsafe {
+        tsunghawi_get_prune_table(table, first.as_ptr(), first.len(), second.as_ptr(), second.len(), out, n)
+    })
+}
+
+/// The builder over two move tables of so many rows and moves.
+pub fn get_pairs_table(
+    first: &[u16],
+    second: &[u16],
+    length: usize,
+    rows: [usize; 2],
+    moves: usize,
+) -> Outcome<(u8, Vec<u8>)> {
+    let [rows1, rows2] = rows;
+    lend_table(length, |out, n| unsafe {
+        let (a, b) = (first.as_ptr(), second.as_ptr());
+        tsunghawi_get_pairs_table(a, first.len(), b, second.len(), out, n, rows1, rows2, moves)
+    })
+}
+
+/// The check of all ten tables: the number in the low byte, then the table, then the entry.
+pub fn check_tables(moves: &[u16], prunes: &[u8]) -> u64 {
+    unsafe { tsunghawi_check_tables(moves.as_ptr(), moves.len(), prunes.as_ptr(), prunes.len()) }
 }

@@ -16,18 +16,44 @@ const UNNUMBERED: u32 = 0xEEEE_EEEE;
 /// How many more bytes, before and after what is lent, no call may touch.
 const SIDE: usize = 16;
 
-/// Lends n bytes to a call and looks at all of them afterwards.
-pub fn lend_bytes(n: usize, call: impl FnOnce(*mut u8, usize) -> u8) -> Outcome<Vec<u8>> {
-    let mut room = vec![UNTOUCHED; SIDE + n + SIDE];
+/// The refusal of a builder that can't reach every pair: the one that writes.
+pub const UNREACHED: u8 = 14;
+
+/// Lends n entries to a call, which gives its number, and looks at all of them afterwards; 14 comes with what was written.
+fn lend_entries<T: Copy + PartialEq>(
+    n: usize,
+    blank: T,
+    call: impl FnOnce(*mut T, usize) -> u8,
+) -> Outcome<(u8, Vec<T>)> {
+    let mut room = vec![blank; SIDE + n + SIDE];
     let number = call(room.as_mut_ptr().wrapping_add(SIDE), n);
-    let untouched = |part: &[u8]| part.iter().all(|&b| b == UNTOUCHED);
+    let untouched = |part: &[T]| part.iter().all(|&b| b == blank);
     let (before, rest) = room.split_at(SIDE);
     let (lent, after) = rest.split_at(n);
     match number {
         _ if !untouched(before) || !untouched(after) => Outcome::Changed,
-        0 => Outcome::Done(lent.to_vec()),
+        0 | UNREACHED => Outcome::Done((number, lent.to_vec())),
         _ if !untouched(lent) => Outcome::Changed,
         refusal => Outcome::Refused(refusal),
+    }
+}
+
+/// Lends a pruning table of n entries to a builder: 0 or 14, and the table.
+pub fn lend_table(n: usize, call: impl FnOnce(*mut u8, usize) -> u8) -> Outcome<(u8, Vec<u8>)> {
+    lend_entries(n, UNTOUCHED, call)
+}
+
+/// Lends the move tables of n entries to a builder.
+pub fn lend_moves(n: usize, call: impl FnOnce(*mut u16, usize) -> u8) -> Outcome<(u8, Vec<u16>)> {
+    lend_entries(n, u16::from_le_bytes([UNTOUCHED; 2]), call)
+}
+
+/// Lends n bytes to a call and looks at all of them afterwards.
+pub fn lend_bytes(n: usize, call: impl FnOnce(*mut u8, usize) -> u8) -> Outcome<Vec<u8>> {
+    match lend_entries(n, UNTOUCHED, call) {
+        Outcome::Done((0, lent)) => Outcome::Done(lent),
+        Outcome::Done(_) | Outcome::Changed => Outcome::Changed,
+        Outcome::Refused(number) => Outcome::Refused(number),
     }
 }
 

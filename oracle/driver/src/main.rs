@@ -6,6 +6,7 @@ mod lent;
 mod lines;
 mod protocol;
 mod stickers;
+mod tables;
 mod text;
 
 fn main() -> std::io::Result<()> {

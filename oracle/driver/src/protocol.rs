@@ -1,12 +1,12 @@
 //! Which requests the product answers today.
-use crate::{coords, cubie, stickers, text};
+use crate::{coords, cubie, stickers, tables, text};
 use wire::{Args, NAMES};
 
 /// A request's name, the C function that it needs, and the answer to its fields, None where they don't fit.
 type Request = (&'static str, &'static str, fn(&Args) -> Option<String>);
 
 /// A request that the product offers is one line here and one function.
-const OFFERED: [Request; 19] = [
+const OFFERED: [Request; 26] = [
     ("solvable", "tsunghawi_is_solvable", cubie::solvable),
     ("solved", "tsunghawi_is_solved", cubie::solved),
     ("counts", "tsunghawi_counts", cubie::counts),
@@ -26,6 +26,13 @@ const OFFERED: [Request; 19] = [
     ("coords", "tsunghawi_arrangement_to_index", coords::coords),
     ("index", "tsunghawi_arrangement_to_index", coords::index),
     ("arrange", "tsunghawi_index_to_arrangement", coords::arrange),
+    ("entry", "tsunghawi_get_prune_tables", tables::entry),
+    ("sum", "tsunghawi_get_prune_tables", tables::sum),
+    ("check", "tsunghawi_check_tables", tables::check),
+    ("poke", "tsunghawi_get_prune_tables", tables::poke),
+    ("mend", "tsunghawi_get_prune_tables", tables::mend),
+    ("build", "tsunghawi_get_prune_table", tables::build),
+    ("pairs", "tsunghawi_get_pairs_table", tables::pairs),
 ];
 
 /// Whether the library that was linked has a function.

@@ -67,30 +67,56 @@ pub fn to_zero(d: &DataTable) -> DataTable {
     with_pruning(d, [6, 7, 8, 9].map(one))
 }
 
-/// The paper's builder (kewb's doesn't end where a pair can't be reached): the entries, 255 where there is no way of at
-/// most 254 moves; 11 where a move entry isn't below its count.
-pub fn build(d: &DataTable, t: usize) -> Result<Vec<u8>, u8> {
-    let (_, a, b) = trio(d, t);
-    let too_large = |x: &Table<u16>| x.iter().flatten().any(|&e| e as usize >= x.len());
-    if too_large(a) || too_large(b) {
-        return Err(11);
+/// Two flat move tables with their counts of rows and their moves.
+pub struct Pair<'a> {
+    pub first: &'a [u16],
+    pub second: &'a [u16],
+    pub rows: [usize; 2],
+    pub moves: usize,
+}
+
+impl Pair<'_> {
+    /// Lengths first (10), for a lent table of `room` entries; then both move tables are scanned (11).
+    pub fn refusal(&self, room: usize) -> Option<u8> {
+        let [n1, n2] = self.rows;
+        let counted = self.rows.iter().all(|n| (1..=65536).contains(n)) && self.moves <= 256;
+        let sized = || [(self.first.len(), n1 * self.moves), (self.second.len(), n2 * self.moves), (room, n1 * n2)];
+        if !counted || sized().iter().any(|(has, wants)| has != wants) {
+            return Some(10);
+        }
+        let too_large = |t: &[u16], rows: usize| t.iter().any(|&e| e as usize >= rows);
+        (too_large(self.first, n1) || too_large(self.second, n2)).then_some(11)
     }
-    let width = b.len();
-    let mut p = vec![255u8; a.len() * width];
-    p[0] = 0;
-    let mut now = vec![0];
-    for distance in 1..255 {
-        let mut next = vec![];
-        for q in now {
-            for (&x, &y) in a[q / width].iter().zip(&b[q % width]) {
-                let r = x as usize * width + y as usize;
-                if p[r] == 255 {
-                    p[r] = distance;
-                    next.push(r);
+
+    /// A plain breadth-first search: each pair's least distance from 0,0, 255 where there is no way of at most 254 moves.
+    pub fn flood(&self) -> Vec<u8> {
+        let width = self.rows[1];
+        let row = |t: &'_ [u16], i: usize| t[i * self.moves..(i + 1) * self.moves].to_vec();
+        let mut p = vec![255u8; self.rows[0] * width];
+        p[0] = 0;
+        let mut now = vec![0];
+        for distance in 1..255 {
+            let mut next = vec![];
+            for q in now {
+                for (x, y) in row(self.first, q / width).into_iter().zip(row(self.second, q % width)) {
+                    let r = x as usize * width + y as usize;
+                    if p[r] == 255 {
+                        p[r] = distance;
+                        next.push(r);
+                    }
                 }
             }
+            now = next;
         }
-        now = next;
+        p
     }
-    Ok(p)
+}
+
+/// The paper's builder over the present move tables of a pruning table 6 to 9: kewb's own doesn't end where a pair can't
+/// be reached.
+pub fn build(d: &DataTable, t: usize) -> Result<Vec<u8>, u8> {
+    let (_, a, b) = trio(d, t);
+    let (first, second) = (a.concat(), b.concat());
+    let pair = Pair { first: &first, second: &second, rows: [a.len(), b.len()], moves: a[0].len() };
+    pair.refusal(a.len() * b.len()).map_or_else(|| Ok(pair.flood()), Err)
 }

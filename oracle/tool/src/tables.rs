@@ -4,12 +4,7 @@ use kewb::oracle::moves::Move;
 use kewb::oracle::utils::{Table, ALL_MOVES, PHASE2_MOVES};
 use kewb::pruning_table::PruningTable;
 use kewb::DataTable;
-
-/// Entries of each table, flat.
-pub const LENGTHS: [u64; 10] = [39366, 36864, 8910, 403200, 403200, 240, 1082565, 1013760, 967680, 967680];
-
-/// The two move tables that a pruning table 6 to 9 goes with.
-pub const PRUNE_OF: [(usize, usize); 4] = [(0, 2), (1, 2), (3, 5), (4, 5)];
+pub use wire::{fnv, LENGTHS, PRUNE_OF};
 
 pub fn move_tables(d: &DataTable) -> [&Table<u16>; 6] {
     let m = &d.move_table;
@@ -35,12 +30,6 @@ pub fn columns(t: usize) -> &'static [Move] {
     } else {
         &PHASE2_MOVES
     }
-}
-
-/// FNV-1a, 64 bits.
-pub fn fnv(bytes: impl IntoIterator<Item = u8>) -> u64 {
-    let step = |h: u64, b: u8| (h ^ b as u64).wrapping_mul(0x0000_0100_0000_01b3);
-    bytes.into_iter().fold(0xcbf2_9ce4_8422_2325, step)
 }
 
 /// The sum of a table's entries, 16-bit ones little-endian.

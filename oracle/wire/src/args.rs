@@ -31,7 +31,7 @@ impl<'a> Args<'a> {
     }
 
     /// Numbers with commas, `-` for none.
-    pub fn list(&self, i: usize) -> Option<Vec<u8>> {
+    pub fn list<T: FromStr>(&self, i: usize) -> Option<Vec<T>> {
         match self.word(i)? {
             "-" => Some(vec![]),
             text => text.split(',').map(|x| x.parse().ok()).collect(),

@@ -1,10 +1,12 @@
 //! The line protocol: what a request and an answer look like. Used by the oracle and by the driver of the product.
 
 mod args;
+mod layout;
 mod names;
 mod serve;
 
 pub use args::{bytes_text, join, Args, Cube};
+pub use layout::{fnv, summed, LENGTHS, PRUNE_OF};
 pub use names::NAMES;
 pub use serve::serve;
 

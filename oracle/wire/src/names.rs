@@ -1,5 +1,5 @@
 /// Every request of the protocol by its first word.
-pub const NAMES: [&str; 32] = [
+pub const NAMES: [&str; 33] = [
     "variant",
     "read",
     "strict",
@@ -32,4 +32,5 @@ pub const NAMES: [&str; 32] = [
     "poke",
     "mend",
     "build",
+    "pairs",
 ];

@@ -42,6 +42,7 @@ pub fn handle(state: &mut State, line: &str) -> Option<String> {
         "poke" => tables::poke(state, args),
         "mend" => Some(tables::mend(state)),
         "build" => tables::build(state, args),
+        "pairs" => tables::pairs(args),
         _ => None,
     }
 }

@@ -2,11 +2,13 @@
 use super::State;
 use crate::cubes::{numbers, solvable_cube};
 use crate::plain::plain;
-use crate::rules;
+use crate::rules::{self, Pair};
 use crate::search::{crate_search, search as counted, search_untrue, Answer};
 use crate::tables::{self, fnv, zeroed, LENGTHS};
 use kewb::oracle::cubie::CubieCube;
-use wire::{answer, Args};
+use kewb::oracle::utils::ALL_MOVES;
+use kewb::pruning_table::get_prune_table;
+use wire::{answer, join, summed, Args};
 
 /// A table's number, if it is one of `from`.
 fn table(args: &Args, from: std::ops::Range<usize>) -> Option<usize> {
@@ -52,7 +54,7 @@ pub fn entry(state: &mut State, args: &Args) -> Option<String> {
 
 pub fn sum(state: &mut State, args: &Args) -> Option<String> {
     let t = table(args, 0..10)?;
-    Some(answer(Ok(format!("{} {:016x}", LENGTHS[t], tables::sum(state.tables(), t)))))
+    Some(answer(Ok(summed(LENGTHS[t] as usize, tables::sum(state.tables(), t)))))
 }
 
 pub fn check(state: &mut State) -> String {
@@ -76,17 +78,40 @@ pub fn mend(state: &mut State) -> String {
     "ok".to_string()
 }
 
+/// A built table, told by `say`: 14 where a pair is out of reach.
+fn built(table: Result<Vec<u8>, u8>, say: impl Fn(&[u8]) -> String) -> String {
+    match table {
+        Err(n) => answer(Err(n)),
+        Ok(p) if p.contains(&255) => format!("refused 14 {}", say(&p)),
+        Ok(p) => answer(Ok(say(&p))),
+    }
+}
+
 pub fn build(state: &mut State, args: &Args) -> Option<String> {
     let t = table(args, 6..10)?;
-    Some(match rules::build(state.tables(), t) {
-        Err(n) => answer(Err(n)),
-        Ok(p) => {
-            let sum = format!("{} {:016x}", p.len(), fnv(p.iter().copied()));
-            if p.contains(&255) {
-                format!("refused 14 {sum}")
-            } else {
-                answer(Ok(sum))
-            }
-        }
-    })
+    Some(built(rules::build(state.tables(), t), |p| summed(p.len(), fnv(p.iter().copied()))))
+}
+
+/// The builder over two move tables of any counts. Where every pair is reached kewb's own builder ends, and must agree.
+pub fn pairs(args: &Args) -> Option<String> {
+    let [n1, n2, moves, room] = [0, 1, 2, 3].map(|i| args.number::<usize>(i));
+    let (first, second) = (args.list(4)?, args.list(5)?);
+    let pair = Pair { first: &first, second: &second, rows: [n1?, n2?], moves: moves? };
+    let table = match pair.refusal(room?) {
+        Some(n) => Err(n),
+        None => Ok(pair.flood()),
+    };
+    match &table {
+        Ok(p) if !p.contains(&255) && own_table(&pair).is_some_and(|own| own != *p) => Some("kewb differs".to_string()),
+        _ => Some(built(table, join)),
+    }
+}
+
+/// What kewb's own builder makes of two move tables, if it can be given so many moves.
+fn own_table(pair: &Pair) -> Option<Vec<u8>> {
+    let moves = ALL_MOVES.get(..pair.moves)?;
+    let nested = |t: &[u16], rows: usize| -> Vec<Vec<u16>> {
+        (0..rows).map(|i| t[i * pair.moves..(i + 1) * pair.moves].to_vec()).collect()
+    };
+    Some(get_prune_table(nested(pair.first, pair.rows[0]), nested(pair.second, pair.rows[1]), moves).concat())
 }

@@ -2,6 +2,7 @@
 pub mod coords;
 pub mod cubie;
 pub mod stickers;
+pub mod tables;
 pub mod text;
 
 use crate::rng::Rng;
@@ -19,11 +20,12 @@ pub struct Step {
     pub things: &'static str,
 }
 
-pub const STEPS: [Step; 4] = [
+pub const STEPS: [Step; 5] = [
     Step { name: "cubie", compare: cubie::compare, things: "cubes" },
     Step { name: "stickers", compare: stickers::compare, things: "sticker strings and cubes" },
     Step { name: "text", compare: text::compare, things: "texts, lists and inputs" },
     Step { name: "coords", compare: coords::compare, things: "arrangements, numbers and cubes" },
+    Step { name: "tables", compare: tables::compare, things: "damages and small move tables" },
 ];
 
 /// A way to make something, and its share.
