@@ -8,7 +8,7 @@ use lib.Dec.{ltb, eqb}
 use lib.ListN.{length}
 use borrow.Author.Tests.{lt-ltb, le-ltb, eq-eqb, ne-eqb, eqb-true, ltb-true, ltb-false}
 use Rattle.base.specs.Lists.{pick}
-use Rattle.cubie.specs.declared.Verdict.the-variants as verdict
+use Rattle.moves.specs.declared.Verdict.the-variants as verdict
 use Rattle.index.specs.Answers.{coAnswer, eoAnswer, eComboAnswer, cpAnswer, udEpAnswer, eEpAnswer, epAnswer}
 use Rattle.index.specs.Answers.{corners, edges, cornersRefused, edgesRefused}
 use Rattle.index.specs.Kinds.{Kind, co, eo, eCombo, cp, udEp, eEp, ep}

@@ -5,8 +5,8 @@ use Prim.Native.Nat.{ℕ, min}
 use lib.Dec.{ltb, eqb}
 use lib.ListN.{length, getD}
 use Rattle.base.specs.Lists.{pick}
-use Rattle.cubie.specs.declared.Verdict.{Verdict}
-use Rattle.cubie.specs.declared.Verdict.the-variants as verdict
+use Rattle.moves.specs.declared.Verdict.{Verdict}
+use Rattle.moves.specs.declared.Verdict.the-variants as verdict
 use Rattle.index.specs.Kinds.{Kind, co, eo, eCombo, cp, udEp, eEp, ep}
 use Rattle.coordinate.specs.declared.Found.{Found}
 use Rattle.coordinate.specs.declared.Found.the-variants as found

@@ -7,8 +7,6 @@ ghost use Rattle.index.specs.Answers.{corners, edges};
 ghost use Rattle.index.specs.Kinds.{co, cp};
 ghost use Rattle.coordinate.specs.Calls.{kindAt, foundOf, foundNumber, foundLeft, narrowed, verdictNumber, verdictLeft};
 ghost use Rattle.coordinate.specs.Calls.{indexNumber, indexLeft, arrangeNumber, arrangeLeft};
-use cubie::Verdict;
-use cubie::inner::copy_in;
 use index::Co;
 use index::CoIndex;
 use index::Corners;
@@ -24,6 +22,8 @@ use index::EoIndex;
 use index::EpIndex;
 use index::UdEp;
 use index::UdEpIndex;
+use moves::Verdict;
+use pieces::inner::copy_in;
 
 // A coordinate's number, or a refusal.
 pub enum Found {

@@ -13,7 +13,7 @@ use Rattle.base.specs.Lists.{allBelow, Under, sameList, times}
 use Rattle.base.specs.Product.{twisted}
 use Rattle.base.proofs.Tests.{and-true, below-true, sameList-is}
 use Rattle.cubie.specs.Cube.{refusalOf, InRange, product, solvedCube, quarterTurns, power, moveOf, turn, applyMoves, sameCube}
-use Rattle.cubie.specs.Moves.{inverseMove, allMoves, phase2Moves}
+use Rattle.moves.specs.Moves.{inverseMove, allMoves, phase2Moves}
 use Rattle.cubie.specs.declared.CubieCube.{CubieCube}
 use Rattle.cubie.proofs.Product.{cube-path, product-range, product-assoc, product-solved, solved-product}
 use Rattle.cubie.proofs.Range.{in-range, no-refusal}

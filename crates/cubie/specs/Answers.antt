@@ -1,35 +1,17 @@
--- What the public functions answer: a refusal's number, 0 where there is none, and the value. Assumes nothing: these are definitions.
-use mathlib.Core.Bool.{Bool}
+-- What the public functions on cubes answer: a refusal's number, 0 where there is none, and the value. Assumes nothing: these are definitions.
 use mathlib.Core.List.{List}
-use Prim.Native.Nat.{ℕ, min}
+use Prim.Native.Nat.{ℕ}
 use lib.Dec.{eqb}
 use Rattle.base.specs.Lists.{pick}
+use Rattle.moves.specs.Answers.{lowestOf, firstOf, told, counted}
+use Rattle.moves.specs.Moves.{moveRefusal, movesRefusal}
+use Rattle.moves.specs.declared.Answer.{Answer}
+use Rattle.moves.specs.declared.Number.{Number}
+use Rattle.moves.specs.declared.Verdict.the-variants as verdict
 use Rattle.cubie.specs.Cube.{refusalOf, product, solvedCube, turn, applyMoves, isHome}
-use Rattle.cubie.specs.Moves.{moveRefusal, movesRefusal, inverseMove}
 use Rattle.cubie.specs.Solvable.{cornerTwist, edgeTwist, cornerPerm, edgePerm, solvable}
-use Rattle.cubie.specs.declared.Answer.{Answer}
-use Rattle.cubie.specs.declared.Answer.the-variants as answer
 use Rattle.cubie.specs.declared.CubeAnswer.{CubeAnswer}
 use Rattle.cubie.specs.declared.CubieCube.{CubieCube}
-use Rattle.cubie.specs.declared.Number.{Number}
-use Rattle.cubie.specs.declared.Number.the-variants as number
-use Rattle.cubie.specs.declared.Verdict.the-variants as verdict
-
--- the lowest of two refusals, where 0 is none
-unfoldable pub lowestOf : ℕ → ℕ → ℕ
-lowestOf m n = pick (eqb m 0) n (pick (eqb n 0) m (min m n))
-
--- the first of two refusals that is one: a cube's before its moves'
-unfoldable pub firstOf : ℕ → ℕ → ℕ
-firstOf m n = pick (eqb m 0) n m
-
--- yes or no
-abbrev pub told : ℕ → Bool → Answer
-told n b = pick (eqb n 0) (pick b answer.Yes answer.No) (answer.Refused n)
-
--- a count, or a move's number
-abbrev pub counted : ℕ → ℕ → Number
-counted n k = pick (eqb n 0) (number.Is k) (number.Refused n)
 
 -- a cube beside a refusal is the solved one
 abbrev pub refusalWith : ℕ → CubeAnswer
@@ -68,10 +50,3 @@ cornerPermAnswer c = counted (refusalOf c) (cornerPerm c)
 
 abbrev pub edgePermAnswer : CubieCube → Number
 edgePermAnswer c = counted (refusalOf c) (edgePerm c)
-
--- of two moves: 7 if either number is above 17
-abbrev pub ofTwo : (ℕ → ℕ → Bool) → ℕ → ℕ → Answer
-ofTwo f m n = told (lowestOf (moveRefusal m) (moveRefusal n)) (f m n)
-
-abbrev pub inverseMoveAnswer : ℕ → Number
-inverseMoveAnswer m = counted (moveRefusal m) (inverseMove m)

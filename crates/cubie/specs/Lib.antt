@@ -1,4 +1,3 @@
 pub mod Answers
 pub mod Cube
-pub mod Moves
 pub mod Solvable

@@ -1,234 +1,29 @@
 // What other crates call without the tests of the public functions. A cube is in range where its refusal is 0.
 ghost use mathlib.Core.Path.{_≡_};
-ghost use mathlib.Core.List.{map};
-ghost use Prim.Native.Nat.{_≤_, _<_, _+_, _-_, _%_};
+ghost use Prim.Native.Nat.{_<_};
 ghost use lib.ListN.{length, getD};
-ghost use lib.Seq.{paste};
-ghost use Rattle.base.specs.Lists.{Under, inRange, sameList, total};
-ghost use Rattle.base.specs.Parity.{swaps, Settled};
-ghost use Rattle.base.specs.Perm.{noRepeat};
-ghost use Rattle.base.specs.Product.{compose, twisted};
+ghost use Rattle.base.specs.Lists.{Under};
 ghost use Rattle.cubie.specs.Answers.{refusalWith};
 ghost use Rattle.cubie.specs.Cube.{refusalOf, bytesOf, product, solvedCube, quarterTurns, moveOf, turn, applyMoves, isHome};
-ghost use Rattle.cubie.specs.Moves.{moveRefusal, isInverse, isSameLayer, inverseMove, isAvailable, allMoves, phase2Moves};
 ghost use Rattle.cubie.specs.Solvable.{cornerTwist, edgeTwist, cornerPerm, edgePerm, solvable};
 use crate::CubeAnswer;
 use crate::CubieCube;
 use crate::SOLVED_CUBIE_CUBE;
-use crate::Verdict;
-use crate::moves::ALL_MOVES;
-use crate::moves::B_MOVE;
-use crate::moves::D_MOVE;
-use crate::moves::F_MOVE;
-use crate::moves::L_MOVE;
-use crate::moves::PHASE2_MOVES;
-use crate::moves::R_MOVE;
-use crate::moves::U_MOVE;
-
-// ---- moves
-
-// 7 for a number that is no move's, else 0.
-pub fn move_refusal(m: u8) -> u8
-    ensures { λ r. ⌜ r ≡ moveRefusal m ⌝ }
-{
-    if m < 18 { 0 } else { 7 }
-}
-
-pub fn is_inverse(m: u8, other: u8) -> bool
-    ensures { λ r. ⌜ r ≡ isInverse m other ⌝ }
-{
-    let a = m / 3;
-    let b = other / 3;
-    if a == 0 {
-        return b == 1;
-    }
-    if a == 2 {
-        return b == 3;
-    }
-    if a == 4 {
-        return b == 5;
-    }
-    false
-}
-
-pub fn is_same_layer(m: u8, other: u8) -> bool
-    ensures { λ r. ⌜ r ≡ isSameLayer m other ⌝ }
-{
-    m / 3 == other / 3
-}
-
-pub fn get_inverse(m: u8) -> u8
-    requires { ⌜ m < 18 ⌝ }
-    ensures { λ r. ⌜ r ≡ inverseMove m ⌝ }
-{
-    m / 3 * 3 + (2 - m % 3)
-}
-
-// As the Rust has it. A first argument of 18 stands for no move: everything is available after it.
-pub fn is_move_available(prev: u8, current: u8) -> bool
-    ensures { λ r. ⌜ r ≡ isAvailable prev current ⌝ }
-{
-    if current == prev {
-        return false;
-    }
-    if is_inverse(current, prev) {
-        return false;
-    }
-    !is_same_layer(current, prev)
-}
-
-// The move of a column of phase 1.
-pub fn phase1_move(j: usize) -> u8
-    requires { ⌜ j < 18 ⌝ }
-    ensures { λ r. ⌜ r ≡ getD allMoves j 0 ⌝ }
-{
-    ALL_MOVES[j]
-}
-
-// The move of a column of phase 2.
-pub fn phase2_move(j: usize) -> u8
-    requires { ⌜ j < 10 ⌝ }
-    ensures { λ r. ⌜ r ≡ getD phase2Moves j 0 ⌝ }
-{
-    PHASE2_MOVES[j]
-}
-
-// ---- lists of bytes
-
-// Whether each is below `n`.
-pub fn in_range(s: &[u8], n: u8) -> bool
-    ensures { λ r. ⌜ r ≡ inRange n (now (s .entry)) ⌝ }
-{
-    let mut i = 0;
-    while i < s.len() {
-        if s[i] >= n {
-            return false;
-        }
-        i += 1;
-    }
-    true
-}
-
-// Whether no piece stands twice: a bit for each piece met, and the count of the bits decides.
-pub fn all_differ(s: &[u8]) -> bool
-    requires { ⌜ (length (now s) ≤ 32) × Under 32 (now s) ⌝ }
-    ensures { λ r. ⌜ r ≡ noRepeat (now (s .entry)) ⌝ }
-{
-    let mut met: u32 = 0;
-    let mut i = 0;
-    while i < s.len() {
-        met |= 1 << s[i];
-        i += 1;
-    }
-    u32::count_ones(met) as usize == s.len()
-}
-
-// Whether the two lists are the same.
-pub fn same_bytes(a: &[u8], b: &[u8]) -> bool
-    ensures { λ r. ⌜ r ≡ sameList (now (a .entry)) (now (b .entry)) ⌝ }
-{
-    if a.len() != b.len() {
-        return false;
-    }
-    let mut i = 0;
-    while i < a.len() {
-        if a[i] != b[i] {
-            return false;
-        }
-        i += 1;
-    }
-    true
-}
-
-// Writes `src` into `dst` from the place `at` on.
-pub fn copy_in(src: &[u8], dst: &mut [u8], at: usize)
-    requires { ⌜ at + length (now src) ≤ length (now dst) ⌝ }
-    ensures { λ r. ⌜ now (dst .exit) ≡ paste (now (dst .entry)) at (now (src .entry)) (length (now (src .entry))) ⌝ }
-{
-    let mut i = 0;
-    while i < src.len() {
-        dst[at + i] = src[i];
-        i += 1;
-    }
-}
-
-// One place of the selection loop: where place `i` does not hold `i`, it is swapped with the first later place that does.
-fn settle(p: &mut [u8], i: usize) -> u8
-    requires { ⌜ i < length (now p) ⌝ }
-    ensures { λ r. ⌜ Settled i (now (p .entry)) (now (p .exit)) r ⌝ }
-{
-    let x = p[i];
-    if x as usize == i {
-        return 0;
-    }
-    let mut j = i + 1;
-    while j < p.len() {
-        let y = p[j];
-        if y as usize == i {
-            p[i] = y;
-            p[j] = x;
-            return 1;
-        }
-        j += 1;
-    }
-    0
-}
-
-// The swaps that sort the working copy `p`: their parity is that of the arrangement.
-fn count_swaps(p: &mut [u8]) -> u8
-    requires { ⌜ length (now p) ≤ 12 ⌝ }
-    ensures { λ r. ⌜ r ≡ swaps (now (p .entry)) ⌝ }
-{
-    let mut count: u8 = 0;
-    let mut i = 0;
-    while i < p.len() {
-        count += settle(p, i);
-        i += 1;
-    }
-    count
-}
-
-// The turns that are left to bring each of `s` to 0 modulo `k`.
-fn count_turns(s: &[u8], k: u8) -> u8
-    requires { ⌜ (length (now s) ≤ 12) × (0 < k) × (k ≤ 3) × Under k (now s) ⌝ }
-    ensures { λ r. ⌜ r ≡ total (λ x. (k - x) % k) (now (s .entry)) ⌝ }
-{
-    let mut count: u8 = 0;
-    let mut i = 0;
-    while i < s.len() {
-        count += (k - s[i]) % k;
-        i += 1;
-    }
-    count
-}
-
-// The pieces of `p` at the places that `q` names.
-pub fn permute(p: &[u8], q: &[u8], out: &mut [u8])
-    requires { ⌜ (length (now q) ≡ length (now out)) × Under (length (now p)) (now q) ⌝ }
-    ensures { λ r. ⌜ now (out .exit) ≡ compose (now (p .entry)) (now (q .entry)) ⌝ }
-{
-    let mut i = 0;
-    while i < q.len() {
-        out[i] = p[q[i] as usize];
-        i += 1;
-    }
-}
-
-// The twists of `t` at the places that `q` names, and those of `s` on top, modulo `k`.
-pub fn twist(t: &[u8], q: &[u8], s: &[u8], k: u8, out: &mut [u8])
-    requires { ⌜ (length (now q) ≡ length (now out)) × (length (now s) ≡ length (now out)) ⌝ }
-    requires { ⌜ Under (length (now t)) (now q) ⌝ }
-    requires { ⌜ Under k (now t) × Under k (now s) × (0 < k) × (k ≤ 3) ⌝ }
-    ensures { λ r. ⌜ now (out .exit) ≡ twisted k (now (t .entry)) (now (q .entry)) (now (s .entry)) ⌝ }
-{
-    let mut i = 0;
-    while i < q.len() {
-        out[i] = (t[q[i] as usize] + s[i]) % k;
-        i += 1;
-    }
-}
-
-// ---- cubes
+use crate::quarters::B_MOVE;
+use crate::quarters::D_MOVE;
+use crate::quarters::F_MOVE;
+use crate::quarters::L_MOVE;
+use crate::quarters::R_MOVE;
+use crate::quarters::U_MOVE;
+use moves::Verdict;
+use pieces::inner::all_differ;
+use pieces::inner::copy_in;
+use pieces::inner::count_swaps;
+use pieces::inner::count_turns;
+use pieces::inner::in_range;
+use pieces::inner::permute;
+use pieces::inner::same_bytes;
+use pieces::inner::twist;
 
 // A refusal, with the solved cube beside it.
 pub fn cube_refused(refusal: u8) -> CubeAnswer

@@ -1,11 +1,18 @@
-// The cube on the cubie level: kewb's src/cube/cubie.rs. The moves of src/cube/moves.rs stand in `moves`.
+// The cube on the cubie level: kewb's src/cube/cubie.rs. The quarter turns of src/cube/moves.rs stand in `quarters`.
 ghost use mathlib.Core.Path.{_≡_};
-ghost use Rattle.cubie.specs.Answers.{told, lowestOf, firstOf};
 ghost use Rattle.cubie.specs.Answers.{mulAnswer, moveAnswer, movesAnswer, solvedAnswer, solvableAnswer};
 ghost use Rattle.cubie.specs.Answers.{cornerTwistAnswer, edgeTwistAnswer, cornerPermAnswer, edgePermAnswer};
+use moves::Answer;
+use moves::Number;
+use moves::Verdict;
+use moves::inner::first;
+use moves::inner::lowest;
+use moves::inner::move_refusal;
+use moves::inner::tell;
+use pieces::inner::in_range;
 
 pub mod inner;
-pub mod moves;
+pub mod quarters;
 
 // Which corner and which edge stands at each place, and how each is twisted or flipped.
 pub struct CubieCube {
@@ -22,57 +29,10 @@ pub const SOLVED_CUBIE_CUBE: CubieCube = CubieCube {
     eo: [0, 0, 0, 0, 0, 0, 0, 0, 0, 0, 0, 0],
 };
 
-// Yes, no, or a refusal by its number.
-pub enum Answer {
-    Yes,
-    No,
-    Refused(u8),
-}
-
-// A count or a move's number, or a refusal.
-pub enum Number {
-    Is(u8),
-    Refused(u8),
-}
-
-pub enum Verdict {
-    Good,
-    Refused(u8),
-}
-
 // A cube, or a refusal with the solved cube beside it.
 pub struct CubeAnswer {
     pub verdict: Verdict,
     pub cube: CubieCube,
-}
-
-// The lowest of two refusals, where 0 is none.
-fn lowest(m: u8, n: u8) -> u8
-    ensures { λ r. ⌜ r ≡ lowestOf m n ⌝ }
-{
-    if m == 0 {
-        return n;
-    }
-    if n == 0 {
-        return m;
-    }
-    if m < n { m } else { n }
-}
-
-// The first of two refusals that is one, where 0 is none.
-fn first(m: u8, n: u8) -> u8
-    ensures { λ r. ⌜ r ≡ firstOf m n ⌝ }
-{
-    if m == 0 { n } else { m }
-}
-
-fn tell(refusal: u8, yes: bool) -> Answer
-    ensures { λ r. ⌜ r ≡ told refusal yes ⌝ }
-{
-    if refusal != 0 {
-        return Answer::Refused(refusal);
-    }
-    if yes { Answer::Yes } else { Answer::No }
 }
 
 impl CubieCube {
@@ -93,7 +53,7 @@ impl CubieCube {
     pub fn apply_move(self, m: u8) -> CubeAnswer
         ensures { λ r. ⌜ r ≡ moveAnswer self m ⌝ }
     {
-        let refusal = first(inner::refusal(self), inner::move_refusal(m));
+        let refusal = first(inner::refusal(self), move_refusal(m));
         if refusal != 0 {
             return inner::cube_refused(refusal);
         }
@@ -111,7 +71,7 @@ impl CubieCube {
         if refusal != 0 {
             return inner::cube_refused(refusal);
         }
-        if !inner::in_range(moves, 18) {
+        if !in_range(moves, 18) {
             return inner::cube_refused(7);
         }
         CubeAnswer {

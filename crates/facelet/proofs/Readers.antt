@@ -16,7 +16,7 @@ use Rattle.cubie.specs.Cube.{InRange}
 use Rattle.cubie.specs.Solvable.{solvable}
 use Rattle.cubie.specs.declared.CubeAnswer.{CubeAnswer}
 use Rattle.cubie.specs.declared.CubieCube.{CubieCube}
-use Rattle.cubie.specs.declared.Verdict.the-variants.{Good}
+use Rattle.moves.specs.declared.Verdict.the-variants.{Good}
 use Rattle.cubie.proofs.Answers.{cubed-good, was-good, good-cube}
 use Rattle.facelet.specs.Picture.{picture}
 use Rattle.facelet.specs.Reader.{allColors, cubeRead, plainRefusal, strictRefusal, readPlain, readStrict}

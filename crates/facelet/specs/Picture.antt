@@ -10,7 +10,7 @@ use Rattle.cubie.specs.Solvable.{solvable}
 use Rattle.cubie.specs.declared.CubieCube.{CubieCube}
 use Rattle.facelet.specs.Stickers.{cornerFacelet, edgeFacelet, cornerColor, edgeColor, solvedFace}
 use Rattle.facelet.specs.declared.FaceAnswer.{FaceAnswer}
-use Rattle.cubie.specs.declared.Verdict.the-variants as verdict
+use Rattle.moves.specs.declared.Verdict.the-variants as verdict
 
 -- each place gets its letter
 unfoldable pub paint : List ℕ → List ℕ → List ℕ → List ℕ

@@ -4,7 +4,7 @@ ghost use Rattle.facelet.specs.Picture.{faceRefusal, pictureAnswer};
 ghost use Rattle.facelet.specs.Reader.{readPlain, readStrict};
 use cubie::CubeAnswer;
 use cubie::CubieCube;
-use cubie::Verdict;
+use moves::Verdict;
 
 pub mod inner;
 
@@ -185,7 +185,7 @@ pub fn read_strict(s: &[u8]) -> CubeAnswer
         Verdict::Good => {
             let cube = plain.cube;
             let face = inner::picture_of(cube);
-            if cubie::inner::same_bytes(&face, s) {
+            if pieces::inner::same_bytes(&face, s) {
                 return plain;
             }
             cubie::inner::cube_refused(15)

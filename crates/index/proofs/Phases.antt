@@ -22,7 +22,7 @@ use Rattle.base.proofs.Perm.{Fills, less-is, total-map, total-ext, add-mono, nu
 use Rattle.base.proofs.Product.{map-at}
 use Rattle.base.proofs.Tests.{and-true, below-true, inRange-under}
 use Rattle.cubie.specs.Cube.{InRange, product, solvedCube, quarterTurns, power, moveOf, turn}
-use Rattle.cubie.specs.Moves.{allMoves, phase2Moves}
+use Rattle.moves.specs.Moves.{allMoves, phase2Moves}
 use Rattle.cubie.specs.Solvable.{cornerTwist, solvable}
 use Rattle.cubie.specs.declared.CubieCube.{CubieCube}
 use Rattle.cubie.proofs.Product.{cube-path}

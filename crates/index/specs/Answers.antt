@@ -4,7 +4,7 @@ use Prim.Native.Nat.{ℕ}
 use lib.Dec.{ltb, eqb}
 use lib.ListN.{replicate}
 use Rattle.base.specs.Lists.{pick}
-use Rattle.cubie.specs.declared.Verdict.the-variants as verdict
+use Rattle.moves.specs.declared.Verdict.the-variants as verdict
 use Rattle.index.specs.Coordinates.{coRefusal, eoRefusal, eComboRefusal, cpRefusal, udEpRefusal, eEpRefusal, epRefusal}
 use Rattle.index.specs.Coordinates.{coNumber, eoNumber, eComboNumber, cpNumber, udEpNumber, eEpNumber, epNumber}
 use Rattle.index.specs.declared.CoIndex.{CoIndex}

@@ -3,8 +3,8 @@ ghost use mathlib.Core.Path.{_≡_};
 ghost use Rattle.index.specs.Answers.{coAnswer, eoAnswer, eComboAnswer, cpAnswer, udEpAnswer, eEpAnswer, epAnswer};
 ghost use Rattle.index.specs.Answers.{corners, edges, cornersRefused, edgesRefused};
 ghost use Rattle.index.specs.Coordinates.{coOf, eoOf, eComboOf, cpOf, udEpOf, eEpOf, epOf};
-use cubie::Verdict;
-use cubie::inner::in_range;
+use moves::Verdict;
+use pieces::inner::in_range;
 
 pub mod inner;
 
@@ -165,7 +165,7 @@ pub fn cp_to_index(cp: [u8; 8]) -> CpIndex
     if !in_range(&cp, 8) {
         return CpIndex::Refused(4);
     }
-    if !cubie::inner::all_differ(&cp) {
+    if !pieces::inner::all_differ(&cp) {
         return CpIndex::Refused(6);
     }
     CpIndex::At(inner::cp_to_index(cp))
@@ -190,7 +190,7 @@ pub fn ep_to_index(ep: [u8; 12]) -> EpIndex
     if !in_range(&ep, 12) {
         return EpIndex::Refused(5);
     }
-    if !cubie::inner::all_differ(&ep) {
+    if !pieces::inner::all_differ(&ep) {
         return EpIndex::Refused(6);
     }
     EpIndex::At(inner::slice_to_index(&ep) as u32)
@@ -217,7 +217,7 @@ pub fn ud_ep_to_index(ep: [u8; 12]) -> UdEpIndex
     if !in_range(&ep, 12) {
         return UdEpIndex::Refused(5);
     }
-    if !cubie::inner::all_differ(&ep[4..12]) {
+    if !pieces::inner::all_differ(&ep[4..12]) {
         return UdEpIndex::Refused(6);
     }
     UdEpIndex::At(inner::ud_ep_to_index(ep))
@@ -243,7 +243,7 @@ pub fn e_ep_to_index(ep: [u8; 12]) -> EEpIndex
     if !in_range(&ep, 12) {
         return EEpIndex::Refused(5);
     }
-    if !cubie::inner::all_differ(&ep[0..4]) {
+    if !pieces::inner::all_differ(&ep[0..4]) {
         return EEpIndex::Refused(6);
     }
     EEpIndex::At(inner::e_ep_to_index(ep))

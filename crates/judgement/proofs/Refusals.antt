@@ -12,7 +12,7 @@ use Rattle.base.specs.Lists.{pick, inRange, Under}
 use Rattle.base.proofs.Tests.{inRange-under}
 use Rattle.cubie.specs.Answers.{cubed, refusalWith}
 use Rattle.cubie.specs.declared.CubieCube.{CubieCube}
-use Rattle.cubie.specs.declared.Verdict.the-variants as verdict
+use Rattle.moves.specs.declared.Verdict.the-variants as verdict
 use Rattle.scramble.specs.Answers.{over, refusal, parsedAs, parsedText, parsedRoom, roomAfter}
 use Rattle.scramble.specs.Text.{parse}
 use Rattle.scramble.specs.declared.Parsed.the-variants.{Moves, Refused}

@@ -9,7 +9,7 @@ ghost use Rattle.judgement.specs.Judge.{closed, refusedScore, scoreOf, s
 use crate::Printed;
 use crate::Score;
 use cubie::CubieCube;
-use cubie::Verdict;
+use moves::Verdict;
 use scramble::Parsed;
 
 // The words of the four lines.
@@ -137,7 +137,7 @@ fn put_bytes(bytes: &[u8], out: &mut [u8], at: usize) -> usize
     ensures { λ r. ⌜ r ≡ at + length (now (bytes .entry)) ⌝ }
     ensures { λ r. ⌜ now (out .exit) ≡ over (now (out .entry)) at (now (bytes .entry)) ⌝ }
 {
-    cubie::inner::copy_in(bytes, out, at);
+    pieces::inner::copy_in(bytes, out, at);
     at + bytes.len()
 }
 

@@ -7,7 +7,7 @@ use native.Mathlib.Omega.{arith}
 use lib.ListN.{getD}
 use Rattle.base.specs.Lists.{Under}
 use Rattle.base.proofs.Tests.{inRange-under, under-at}
-use Rattle.cubie.specs.Moves.{allMoves, phase2Moves}
+use Rattle.moves.specs.Moves.{allMoves, phase2Moves}
 use Rattle.index.specs.Kinds.{Kind, Numbered}
 use Rattle.index.proofs.Numbers.{co-numbered, eo-numbered, e-combo-numbered, cp-numbered, ud-ep-numbered, e-ep-numbered}
 use Rattle.move_table.specs.Tables.{tableAt, columns, size, Domain}

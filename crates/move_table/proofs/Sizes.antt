@@ -4,7 +4,7 @@ use mathlib.Core.List.{List}
 use Prim.Native.Nat.{ℕ}
 use lib.ListN.{length}
 use borrow.Author.Tests.{eq-eqb, ne-eqb}
-use Rattle.cubie.specs.declared.Verdict.the-variants.{Good, Refused}
+use Rattle.moves.specs.declared.Verdict.the-variants.{Good, Refused}
 use Rattle.move_table.specs.Layout.{sizedVerdict, built}
 
 module _ (n : ℕ) (before whole : List ℕ) where

@@ -18,7 +18,7 @@ use Rattle.base.proofs.Perm.{total-map, permOf-perm, permOf-number}
 use Rattle.base.proofs.Product.{map-at, compose-sized, twisted-sized, total-twisted}
 use Rattle.base.proofs.Tests.{inRange-under}
 use Rattle.cubie.specs.Cube.{InRange, product, moveOf, turn}
-use Rattle.cubie.specs.Moves.{inverseMove, allMoves, phase2Moves}
+use Rattle.moves.specs.Moves.{inverseMove, allMoves, phase2Moves}
 use Rattle.cubie.specs.Solvable.{solvable}
 use Rattle.cubie.specs.declared.CubieCube.{CubieCube}
 use Rattle.cubie.proofs.Product.{solved-product}

@@ -4,8 +4,8 @@ use Prim.Native.Nat.{ℕ}
 use lib.Dec.{eqb}
 use lib.ListN.{length}
 use Rattle.base.specs.Lists.{pick}
-use Rattle.cubie.specs.declared.Verdict.{Verdict}
-use Rattle.cubie.specs.declared.Verdict.the-variants.{Good, Refused}
+use Rattle.moves.specs.declared.Verdict.{Verdict}
+use Rattle.moves.specs.declared.Verdict.the-variants.{Good, Refused}
 use Rattle.move_table.specs.Tables.{tableAt, trueTable}
 
 -- the block of the six, one after the other: 891,780 entries

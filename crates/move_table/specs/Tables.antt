@@ -6,7 +6,7 @@ use lib.Dec.{eqb}
 use lib.ListN.{length, getD}
 use Rattle.base.specs.Lists.{pick, range}
 use Rattle.cubie.specs.Cube.{bytesOf, moveOf, turn}
-use Rattle.cubie.specs.Moves.{allMoves, phase2Moves}
+use Rattle.moves.specs.Moves.{allMoves, phase2Moves}
 use Rattle.index.specs.Kinds.{Kind, co, eo, eCombo, cp, udEp, eEp, coordinate, after}
 
 -- "Flat, row after row": a row for each number of the coordinate, a column for each move

@@ -7,13 +7,8 @@ ghost use Rattle.base.specs.Product.{compose};
 ghost use Rattle.cubie.specs.Cube.{moveOf};
 ghost use Rattle.index.specs.Kinds.{co, eo, cp};
 ghost use Rattle.move_table.specs.Tables.{tableAt, columns, size, trueRow, trueTable, firstOff, Domain, moved, cubesTo};
-use cubie::inner::copy_in;
 use cubie::inner::move_state;
-use cubie::inner::permute;
-use cubie::inner::phase1_move;
-use cubie::inner::phase2_move;
 use cubie::inner::put_cube;
-use cubie::inner::twist;
 use index::Co;
 use index::Cp;
 use index::ECombo;
@@ -32,6 +27,11 @@ use index::inner::index_to_e_ep;
 use index::inner::index_to_eo;
 use index::inner::index_to_ud_ep;
 use index::inner::ud_ep_to_index;
+use moves::inner::phase1_move;
+use moves::inner::phase2_move;
+use pieces::inner::copy_in;
+use pieces::inner::permute;
+use pieces::inner::twist;
 
 // The cubes of the 18 moves by their numbers, 40 bytes each: cp 8, co 8, ep 12, eo 12.
 fn move_cubes() -> [u8; 720]

@@ -2,7 +2,7 @@
 ghost use mathlib.Core.Path.{_≡_};
 ghost use Rattle.move_table.specs.Layout.{moveBlock, sizedVerdict, built};
 ghost use Rattle.move_table.specs.Tables.{tableAt, trueTable};
-use cubie::Verdict;
+use moves::Verdict;
 
 pub mod inner;
 

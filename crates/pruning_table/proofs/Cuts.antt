@@ -9,7 +9,7 @@ use native.Mathlib.Omega.{arith}
 use lib.ListN.{length, getD}
 use Rattle.base.specs.Lists.{Under, total}
 use Rattle.cubie.specs.Cube.{InRange, turn, applyMoves}
-use Rattle.cubie.specs.Moves.{allMoves, phase2Moves}
+use Rattle.moves.specs.Moves.{allMoves, phase2Moves}
 use Rattle.cubie.specs.Solvable.{solvable}
 use Rattle.cubie.specs.declared.CubieCube.{CubieCube}
 use Rattle.cubie.proofs.Solvable.{Parts, solvable-parts, turn-solvable}

@@ -13,7 +13,7 @@ use borrow.Author.Tests.{ltb-true, leb-true}
 use Rattle.base.specs.Lists.{Under}
 use Rattle.base.proofs.Perm.{less-cut}
 use Rattle.base.proofs.Tests.{and-true}
-use Rattle.cubie.specs.Moves.{inverseMove, allMoves, phase2Moves}
+use Rattle.moves.specs.Moves.{inverseMove, allMoves, phase2Moves}
 use Rattle.move_table.specs.Tables.{tableAt, columns, size, trueTable}
 use Rattle.move_table.proofs.Entries.{Back, all-back, phase2-back, entries-small, entry-back}
 use Rattle.move_table.proofs.Rows.{table-length}

@@ -61,7 +61,7 @@ fn same_case(kind: u8, a: &[u8], b: &[u8], number: u8, want: &[u8], out: &mut [u
     if call(kind, a, b, out) != number {
         return false;
     }
-    cubie::inner::same_bytes(out, want)
+    pieces::inner::same_bytes(out, want)
 }
 
 // The kinds of move text.
@@ -81,7 +81,7 @@ fn same_count(kind: u8, a: &[u8], number: u8, want: &[u8], wanted: usize, out: &
     if count != wanted {
         return false;
     }
-    cubie::inner::same_bytes(out, want)
+    pieces::inner::same_bytes(out, want)
 }
 
 // A case of move text: behind the bytes that were lent stands the count, in two bytes.
@@ -132,7 +132,7 @@ fn same_arrangement(a: &[u8], b: &[u8], number: u8, want: &[u8], out: &mut [u8])
     if unit::tsunghawi_index_to_arrangement(a[0], n, out) != number {
         return false;
     }
-    cubie::inner::same_bytes(out, want)
+    pieces::inner::same_bytes(out, want)
 }
 
 // Whether the case of a line agrees: a kind, two parts, a number and a part.

@@ -5,9 +5,9 @@ use lib.Dec.{leb, eqb}
 use lib.ListN.{length}
 use lib.Seq.{paste}
 use Rattle.base.specs.Lists.{pick, inRange}
-use Rattle.cubie.specs.Answers.{counted}
-use Rattle.cubie.specs.Moves.{moveRefusal}
-use Rattle.cubie.specs.declared.Number.{Number}
+use Rattle.moves.specs.Answers.{counted}
+use Rattle.moves.specs.Moves.{moveRefusal}
+use Rattle.moves.specs.declared.Number.{Number}
 use Rattle.scramble.specs.Text.{numberOf, parse}
 use Rattle.scramble.specs.declared.Parsed.{Parsed}
 use Rattle.scramble.specs.declared.Parsed.the-variants as parsed

@@ -4,7 +4,7 @@ ghost use mathlib.Core.Path.{_≡_};
 ghost use Rattle.scramble.specs.Answers.{parsedMove, parsedText, parsedRoom, writtenText, writtenRoom};
 ghost use Rattle.scramble.specs.Strokes.{strokesOf};
 ghost use Rattle.scramble.specs.Text.{wordOf, textOf};
-use cubie::Number;
+use moves::Number;
 
 pub mod inner;
 
@@ -60,7 +60,7 @@ pub fn scramble_to_str(moves: &[u8], text: &mut [u8]) -> Written
     ensures { λ r. ⌜ r ≡ writtenText (now (moves .entry)) (textOf (now (moves .entry))) (now (text .entry)) ⌝ }
     ensures { λ r. ⌜ now (text .exit) ≡ writtenRoom (now (moves .entry)) (textOf (now (moves .entry))) (now (text .entry)) ⌝ }
 {
-    if !cubie::inner::in_range(moves, 18) {
+    if !pieces::inner::in_range(moves, 18) {
         return Written::Refused(7);
     }
     if !inner::text_fits(moves, text.len()) {

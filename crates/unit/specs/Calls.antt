@@ -6,17 +6,18 @@ use Prim.Native.Nat.{ℕ}
 use lib.Dec.{eqb}
 use lib.ListN.{length, take, drop}
 use Rattle.base.specs.Lists.{pick}
-use Rattle.cubie.specs.Answers.{mulAnswer, moveAnswer, movesAnswer, solvedAnswer, solvableAnswer, ofTwo, inverseMoveAnswer}
+use Rattle.moves.specs.Answers.{ofTwo, inverseMoveAnswer}
+use Rattle.cubie.specs.Answers.{mulAnswer, moveAnswer, movesAnswer, solvedAnswer, solvableAnswer}
 use Rattle.cubie.specs.Cube.{refusalOf, bytesOf}
 use Rattle.cubie.specs.Solvable.{cornerTwist, edgeTwist, cornerPerm, edgePerm}
-use Rattle.cubie.specs.declared.Answer.{Answer}
-use Rattle.cubie.specs.declared.Answer.the-variants.{Yes, No, Refused}
+use Rattle.moves.specs.declared.Answer.{Answer}
+use Rattle.moves.specs.declared.Answer.the-variants.{Yes, No, Refused}
 use Rattle.cubie.specs.declared.CubeAnswer.{CubeAnswer}
 use Rattle.cubie.specs.declared.CubieCube.{CubieCube}
-use Rattle.cubie.specs.declared.Number.{Number}
-use Rattle.cubie.specs.declared.Number.the-variants as number
-use Rattle.cubie.specs.declared.Verdict.{Verdict}
-use Rattle.cubie.specs.declared.Verdict.the-variants as verdict
+use Rattle.moves.specs.declared.Number.{Number}
+use Rattle.moves.specs.declared.Number.the-variants as number
+use Rattle.moves.specs.declared.Verdict.{Verdict}
+use Rattle.moves.specs.declared.Verdict.the-variants as verdict
 use Rattle.facelet.specs.Picture.{pictureAnswer}
 use Rattle.facelet.specs.declared.FaceAnswer.{FaceAnswer}
 

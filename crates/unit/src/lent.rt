@@ -2,13 +2,13 @@
 ghost use mathlib.Core.Path.{_≡_};
 ghost use lib.ListN.{length};
 ghost use Rattle.unit.specs.Calls.{cubeOf, Leaves, cubeLeft, faceLeft, answerLeft, numberLeft};
-use cubie::Answer;
 use cubie::CubeAnswer;
 use cubie::CubieCube;
-use cubie::Number;
-use cubie::Verdict;
 use cubie::inner;
 use facelet::FaceAnswer;
+use moves::Answer;
+use moves::Number;
+use moves::Verdict;
 
 // A cube from its 40 bytes.
 pub(crate) fn cube_of(s: &[u8]) -> CubieCube
@@ -19,10 +19,10 @@ pub(crate) fn cube_of(s: &[u8]) -> CubieCube
     let mut co = [0u8; 8];
     let mut ep = [0u8; 12];
     let mut eo = [0u8; 12];
-    inner::copy_in(&s[0..8], &mut cp, 0);
-    inner::copy_in(&s[8..16], &mut co, 0);
-    inner::copy_in(&s[16..28], &mut ep, 0);
-    inner::copy_in(&s[28..40], &mut eo, 0);
+    pieces::inner::copy_in(&s[0..8], &mut cp, 0);
+    pieces::inner::copy_in(&s[8..16], &mut co, 0);
+    pieces::inner::copy_in(&s[16..28], &mut ep, 0);
+    pieces::inner::copy_in(&s[28..40], &mut eo, 0);
     CubieCube { cp, co, ep, eo }
 }
 
@@ -52,7 +52,7 @@ pub(crate) fn leave_face(a: FaceAnswer, out: &mut [u8]) -> u8
         Verdict::Refused(n) => n,
         Verdict::Good => {
             let face = a.face;
-            inner::copy_in(&face, out, 0);
+            pieces::inner::copy_in(&face, out, 0);
             0
         }
     }

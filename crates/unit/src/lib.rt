@@ -4,14 +4,13 @@ ghost use mathlib.Core.Path.{_≡_};
 ghost use Rattle.unit.specs.Calls.{Leaves, mulCall, moveCall, movesCall, solvedCall, solvableCall, countsCall, inverseMoveCall, ofTwoCall};
 ghost use Rattle.unit.specs.Calls.{readCall, pictureCall};
 ghost use Rattle.facelet.specs.Reader.{readPlain, readStrict};
-ghost use Rattle.cubie.specs.Moves.{isInverse, isSameLayer, isAvailable};
+ghost use Rattle.moves.specs.Moves.{isInverse, isSameLayer, isAvailable};
 ghost use Rattle.scramble.specs.Answers.{parsedText, parsedRoom, writtenText, writtenRoom};
 ghost use Rattle.scramble.specs.Text.{textOf};
 ghost use Rattle.unit.specs.Text.{parsedNumber, parsedCount, writtenNumber, writtenCount};
 ghost use Rattle.unit.specs.Judge.{judgeNumber, judgeRoom, judgeCount};
 ghost use Rattle.coordinate.specs.Calls.{indexNumber, indexLeft, arrangeNumber, arrangeLeft};
 use cubie::inner;
-use cubie::moves;
 use scramble::Parsed;
 use scramble::Written;
 
@@ -237,7 +236,7 @@ pub extern "C" fn tsunghawi_judge(input: &[u8], out: &mut [u8], count: &mut usiz
     }
     let said = judgement::judge(input);
     let text = said.text;
-    inner::copy_in(&text, out, 0);
+    pieces::inner::copy_in(&text, out, 0);
     *count = said.len;
     0
 }

@@ -5,7 +5,7 @@ use native.Mathlib.Omega.{arith}
 use denote.Ref.{now}
 use lib.ListN.{length}
 use Rattle.base.proofs.Steps.{paste-whole}
-use Rattle.cubie.specs.declared.Verdict.the-variants.{Good}
+use Rattle.moves.specs.declared.Verdict.the-variants.{Good}
 use borrow.Author.Needs.{needs}
 use Rattle.coordinate.proofs.leave_edges.Statement.{statement}
 use Rattle.coordinate.proofs.leave_edges.Tie as tie

@@ -9,7 +9,7 @@ use Rattle.base.specs.Lists.{sameList}
 use Rattle.cubie.specs.Answers.{cubed}
 use Rattle.cubie.specs.Cube.{refusalOf}
 use Rattle.cubie.specs.declared.CubeAnswer.{CubeAnswer}
-use Rattle.cubie.specs.declared.Verdict.the-variants.{Good, Refused}
+use Rattle.moves.specs.declared.Verdict.the-variants.{Good, Refused}
 use Rattle.cubie.proofs.Range.{no-refusal}
 use Rattle.cubie.proofs.Answers.{cubed-refused, was-good, was-refused, good-cube}
 use Rattle.facelet.specs.Picture.{picture}

@@ -5,7 +5,7 @@ use native.Mathlib.Omega.{arith}
 use denote.Ref.{now}
 use borrow.Author.Tests.{lt-ltb, le-ltb}
 use Rattle.scramble.specs.Text.{numberOf}
-use Rattle.cubie.specs.declared.Number.the-variants.{Is}
+use Rattle.moves.specs.declared.Number.the-variants.{Is}
 use borrow.Author.Needs.{needs}
 use Rattle.scramble.proofs.move_from_str.Statement.{statement}
 use Rattle.scramble.proofs.move_from_str.Tie as tie

@@ -1,9 +1,10 @@
 -- `cubie::CubieCube::apply_move` meets its contract. Assumes nothing.
 use mathlib.Core.Path.{_≡_, sym, ap₂, _∙_}
-use Rattle.cubie.specs.Answers.{firstOf}
+use Rattle.moves.specs.Answers.{firstOf}
 use Rattle.cubie.specs.Cube.{refusalOf}
-use Rattle.cubie.specs.Moves.{moveRefusal}
-use Rattle.cubie.proofs.Answers.{cubed-refused, cubed-good, first-none, move-none}
+use Rattle.moves.specs.Moves.{moveRefusal}
+use Rattle.moves.proofs.Answers.{first-none, move-none}
+use Rattle.cubie.proofs.Answers.{cubed-refused, cubed-good}
 use borrow.Author.Needs.{needs}
 use Rattle.cubie.proofs.CubieCube.apply_move.Statement.{statement}
 use Rattle.cubie.proofs.CubieCube.apply_move.Tie as tie

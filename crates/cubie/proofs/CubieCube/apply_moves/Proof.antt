@@ -7,10 +7,11 @@ use denote.Ref.{now}
 use borrow.Author.Tests.{not-true, not-false}
 use Rattle.base.specs.Lists.{pick, inRange}
 use Rattle.base.proofs.Tests.{inRange-under}
-use Rattle.cubie.specs.Answers.{firstOf}
+use Rattle.moves.specs.Answers.{firstOf}
 use Rattle.cubie.specs.Cube.{refusalOf}
-use Rattle.cubie.specs.Moves.{movesRefusal}
-use Rattle.cubie.proofs.Answers.{cubed-refused, cubed-good, first-refused, first-rest}
+use Rattle.moves.specs.Moves.{movesRefusal}
+use Rattle.moves.proofs.Answers.{first-refused, first-rest}
+use Rattle.cubie.proofs.Answers.{cubed-refused, cubed-good}
 use borrow.Author.Needs.{needs}
 use Rattle.cubie.proofs.CubieCube.apply_moves.Statement.{statement}
 use Rattle.cubie.proofs.CubieCube.apply_moves.Tie as tie

@@ -1,7 +1,7 @@
 -- `cubie::CubieCube::is_solvable` meets its contract. Assumes nothing.
 use mathlib.Core.Path.{sym, _∙_}
 use Rattle.cubie.specs.Solvable.{solvable}
-use Rattle.cubie.proofs.Answers.{told-refused}
+use Rattle.moves.proofs.Answers.{told-refused}
 use borrow.Author.Needs.{needs}
 use Rattle.cubie.proofs.CubieCube.is_solvable.Statement.{statement}
 use Rattle.cubie.proofs.CubieCube.is_solvable.Tie as tie

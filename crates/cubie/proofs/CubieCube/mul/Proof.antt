@@ -1,8 +1,9 @@
 -- `cubie::CubieCube::mul` meets its contract. Assumes nothing.
 use mathlib.Core.Path.{_≡_, sym, ap₂, _∙_}
-use Rattle.cubie.specs.Answers.{lowestOf}
+use Rattle.moves.specs.Answers.{lowestOf}
 use Rattle.cubie.specs.Cube.{refusalOf}
-use Rattle.cubie.proofs.Answers.{cubed-refused, cubed-good, lowest-none}
+use Rattle.moves.proofs.Answers.{lowest-none}
+use Rattle.cubie.proofs.Answers.{cubed-refused, cubed-good}
 use borrow.Author.Needs.{needs}
 use Rattle.cubie.proofs.CubieCube.mul.Statement.{statement}
 use Rattle.cubie.proofs.CubieCube.mul.Tie as tie

@@ -1,7 +1,7 @@
 -- `unit::lent::leave_answer` meets its contract. Assumes nothing.
 use mathlib.Core.Path.{_≡_, refl}
 use denote.Ref.{now}
-use Rattle.cubie.specs.declared.Answer.the-variants.{Yes, No}
+use Rattle.moves.specs.declared.Answer.the-variants.{Yes, No}
 use Rattle.unit.proofs.Sizes.{one-byte}
 use borrow.Author.Needs.{needs}
 use Rattle.unit.proofs.lent.leave_answer.Statement.{statement}

@@ -1,6 +1,6 @@
 -- `unit::lent::leave_cube` meets its contract. Assumes nothing.
 use mathlib.Core.Path.{_≡_, refl}
-use Rattle.cubie.specs.declared.Verdict.the-variants.{Good}
+use Rattle.moves.specs.declared.Verdict.the-variants.{Good}
 use borrow.Author.Needs.{needs}
 use Rattle.unit.proofs.lent.leave_cube.Statement.{statement}
 use Rattle.unit.proofs.lent.leave_cube.Tie as tie

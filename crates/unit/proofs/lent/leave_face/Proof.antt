@@ -5,7 +5,7 @@ use native.Mathlib.Omega.{arith}
 use denote.Ref.{now}
 use lib.ListN.{length}
 use Rattle.base.proofs.Steps.{paste-whole}
-use Rattle.cubie.specs.declared.Verdict.the-variants.{Good}
+use Rattle.moves.specs.declared.Verdict.the-variants.{Good}
 use borrow.Author.Needs.{needs}
 use Rattle.unit.proofs.lent.leave_face.Statement.{statement}
 use Rattle.unit.proofs.lent.leave_face.Tie as tie

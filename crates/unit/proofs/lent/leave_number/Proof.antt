@@ -1,7 +1,7 @@
 -- `unit::lent::leave_number` meets its contract. Assumes nothing.
 use mathlib.Core.Path.{_≡_, refl}
 use denote.Ref.{now}
-use Rattle.cubie.specs.declared.Number.the-variants.{Is}
+use Rattle.moves.specs.declared.Number.the-variants.{Is}
 use Rattle.unit.proofs.Sizes.{one-byte}
 use borrow.Author.Needs.{needs}
 use Rattle.unit.proofs.lent.leave_number.Statement.{statement}
