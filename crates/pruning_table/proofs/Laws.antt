@@ -95,12 +95,15 @@ known-one step k p v w (inl a) (inr b) = absurd (b .1 v (a .0) (a .1 .walk))
 known-one step k p v w (inr a) (inl b) = absurd (a .1 w (b .0) (b .1 .walk))
 known-one step k p v w (inr a) (inr b) = a .0 ∙ sym (b .0)
 
+-- and so is the table that it leaves
+pub layer-one : (step : ℕ → ℕ → ℕ) (k n : ℕ) (u v : List ℕ) → length u ≡ n → length v ≡ n → Layer step k n 254 u → Layer step k n 254 v → u ≡ v
+layer-one step k n u v lu lv a b =
+    ext-getD 255 u v (lu ∙ sym lv) (λ i l. let li : i < n = omega arith in known-one step k i _ _ (a i li) (b i li))
+
 module _ (t1 t2 : List ℕ) (n1 n2 k : ℕ) (tab : List ℕ) where
-  -- and so is the table that it leaves
-  layer-one : (u v : List ℕ) → Ready t1 t2 tab n1 n2 k → length u ≡ length tab → length v ≡ length tab
+  table-one : (u v : List ℕ) → Ready t1 t2 tab n1 n2 k → length u ≡ length tab → length v ≡ length tab
       → Layer (next t1 t2 n2 k) k (n1 * n2) 254 u → Layer (next t1 t2 n2 k) k (n1 * n2) 254 v → u ≡ v
-  layer-one u v r lu lv a b =
-      ext-getD 255 u v (lu ∙ sym lv) (λ i l. let li : i < n1 * n2 = omega (arith, r .sized .pairs) in known-one (next t1 t2 n2 k) k i _ _ (a i li) (b i li))
+  table-one u v r lu lv = layer-one (next t1 t2 n2 k) k (n1 * n2) u v (lu ∙ r .sized .pairs) (lv ∙ r .sized .pairs)
 
   -- what a whole table has
   done-layer : (u : List ℕ) → Outcome t1 t2 n1 n2 k tab u Done → Layer (next t1 t2 n2 k) k (n1 * n2) 254 u
@@ -109,7 +112,7 @@ module _ (t1 t2 : List ℕ) (n1 n2 k : ℕ) (tab : List ℕ) where
   -- no table is both whole and not
   clash : (u v : List ℕ) → Outcome t1 t2 n1 n2 k tab u Done → Outcome t1 t2 n1 n2 k tab v Unreached → ⊥
   clash u v a b =
-      let e : u ≡ v = layer-one u v (a .0) (a .1) (b .1) (done-layer u a) (b .2) in
+      let e : u ≡ v = table-one u v (a .0) (a .1) (b .1) (done-layer u a) (b .2) in
       let (p, l, h) = b .3 in
       omega (arith, a .2 p (omega (arith, a .0 .sized .pairs, b .1)) .0, ap (λ (t : List ℕ). held t p) e)
 
@@ -125,9 +128,9 @@ module _ (t1 t2 : List ℕ) (n1 n2 k : ℕ) (tab : List ℕ) where
   outcome-one u v Entry Unreached a b = absurd (a .1 (b .0 .below1, b .0 .below2))
   outcome-one u v Done Length a b = absurd (b .0 (a .0 .sized))
   outcome-one u v Done Entry a b = absurd (b .1 (a .0 .below1, a .0 .below2))
-  outcome-one u v Done Done a b = (refl, layer-one u v (a .0) (a .1) (b .1) (done-layer u a) (done-layer v b))
+  outcome-one u v Done Done a b = (refl, table-one u v (a .0) (a .1) (b .1) (done-layer u a) (done-layer v b))
   outcome-one u v Done Unreached a b = absurd (clash u v a b)
   outcome-one u v Unreached Length a b = absurd (b .0 (a .0 .sized))
   outcome-one u v Unreached Entry a b = absurd (b .1 (a .0 .below1, a .0 .below2))
   outcome-one u v Unreached Done a b = absurd (clash v u b a)
-  outcome-one u v Unreached Unreached a b = (refl, layer-one u v (a .0) (a .1) (b .1) (a .2) (b .2))
+  outcome-one u v Unreached Unreached a b = (refl, table-one u v (a .0) (a .1) (b .1) (a .2) (b .2))

@@ -1,5 +1,7 @@
 pub mod Bfs
 pub mod Cuts
+pub mod Filling
+pub mod Four
 pub mod Laws
 pub mod PairRule
 pub mod Parts

@@ -129,13 +129,13 @@ module _ {t a b k n1 n2 i j p : ℕ} (s : Spot t a b k n1 n2 i j p) where
   spot-end = omega (arith, prune-within t (s .below) (s .above), s .at, spot-len)
 
   module _ (moves prunes : List ℕ) (w : Blocks moves prunes) where
-    slice1 : take (i + n1 * k - i) (drop i moves) ≡ part (firstOf t) moves
+    pub slice1 : take (i + n1 * k - i) (drop i moves) ≡ part (firstOf t) moves
     slice1 = slice-is a moves i (n1 * k) (s .at1) spot-len1 ∙ ap (λ (x : ℕ). part x moves) (s .first)
 
-    slice2 : take (j + n2 * k - j) (drop j moves) ≡ part (secondOf t) moves
+    pub slice2 : take (j + n2 * k - j) (drop j moves) ≡ part (secondOf t) moves
     slice2 = slice-is b moves j (n2 * k) (s .at2) spot-len2 ∙ ap (λ (x : ℕ). part x moves) (s .second)
 
-    slice : take (p + n1 * n2 - p) (drop p prunes) ≡ part t prunes
+    pub slice : take (p + n1 * n2 - p) (drop p prunes) ≡ part t prunes
     slice = slice-is t prunes p (n1 * n2) (s .at) spot-len
 
     pub spot-counts : Counts n1 n2 k

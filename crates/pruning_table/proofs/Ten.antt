@@ -197,7 +197,7 @@ module _ (moves prunes : List ℕ) (b : Blocks moves prunes) where
       ext-getD 0 (part t moves) (T t) (l ∙ move-entries t h ∙ sym (table-length (tableAt t))) (λ e k. f e (omega arith) .move h)
 
   -- where the move tables are true, the lent ones say the true step
-  same-step : ((t : ℕ) → t < 6 → part t moves ≡ T t) → (t : ℕ) → t < 10 → 6 ≤ t → stepOf t moves ≡ trueStep t
+  pub same-step : ((t : ℕ) → t < 6 → part t moves ≡ T t) → (t : ℕ) → t < 10 → 6 ≤ t → stepOf t moves ≡ trueStep t
   same-step e t h k =
       ap₂ (λ (x y : List ℕ). next x y (rows (secondOf t)) (columns (tableAt (firstOf t)))) (e (firstOf t) (firsts t h k)) (e (secondOf t) (seconds t h k))
 

@@ -1,4 +1,5 @@
 pub mod Answers
+pub mod Block
 pub mod Check
 pub mod Pairs
 pub mod Tables

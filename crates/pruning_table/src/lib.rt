@@ -1,5 +1,6 @@
 // The pruning tables: kewb's src/two_phase/pruning.rs.
 ghost use Rattle.pruning_table.specs.Answers.{Outcome};
+ghost use Rattle.pruning_table.specs.Block.{AllOutcome};
 ghost use Rattle.pruning_table.specs.Check.{Checks};
 use move_table::MOVES_LEN;
 
@@ -68,6 +69,25 @@ pub fn get_ep_e_table(ep: &[u16], e_ep: &[u16], table: &mut [u8]) -> Built
     ensures { λ r. ⌜ Outcome (now (ep .entry)) (now («e_ep» .entry)) 40320 24 10 (now (table .entry)) (now (table .exit)) r ⌝ }
 {
     inner::get_prune_table(ep, e_ep, table, 40320, 24, 10)
+}
+
+// All four tables in one block, by the move tables of theirs.
+pub fn get_prune_tables(moves: &[u16], prunes: &mut [u8]) -> Built
+    ensures { λ r. ⌜ AllOutcome (now (moves .entry)) (now (prunes .entry)) (now (prunes .exit)) r ⌝ }
+{
+    if moves.len() != MOVES_LEN {
+        return Built::Length;
+    }
+    if prunes.len() != PRUNES_LEN {
+        return Built::Length;
+    }
+    if !inner::tables_below(moves) {
+        return Built::Entry;
+    }
+    if inner::fill_all(moves, prunes) {
+        return Built::Unreached;
+    }
+    Built::Done
 }
 
 // The check of all ten tables: the lowest bad table, and its lowest bad entry.
