@@ -13,7 +13,7 @@ use Rattle.base.specs.Lists.{Under}
 use Rattle.base.proofs.Digits.{under-append}
 use Rattle.pruning_table.specs.Pairs.{next, held, run, Walks, Leads, IsTrue, Fine, Known}
 use Rattle.pruning_table.specs.Tables.{Ready, Inverses}
-use Rattle.pruning_table.specs.Answers.{Tells, Layer, Outcome}
+use Rattle.pruning_table.specs.Answers.{Tells, Layer, Outcome, AnyOutcome}
 use Rattle.pruning_table.specs.declared.Rule.{Rule}
 use Rattle.pruning_table.specs.declared.Rule.the-variants.{Holds, Fails}
 use Rattle.pruning_table.specs.declared.Built.{Built}
@@ -134,3 +134,10 @@ module _ (t1 t2 : List ℕ) (n1 n2 k : ℕ) (tab : List ℕ) where
   outcome-one u v Unreached Entry a b = absurd (b .1 (a .0 .below1, a .0 .below2))
   outcome-one u v Unreached Done a b = absurd (clash v u b a)
   outcome-one u v Unreached Unreached a b = (refl, table-one u v (a .0) (a .1) (b .1) (a .2) (b .2))
+
+  -- so has it at any counts
+  pub any-outcome-one : (u v : List ℕ) (x y : Built) → AnyOutcome t1 t2 n1 n2 k tab u x → AnyOutcome t1 t2 n1 n2 k tab v y → (x ≡ y) × (u ≡ v)
+  any-outcome-one u v x y (inl a) (inl b) = outcome-one u v x y (a .1) (b .1)
+  any-outcome-one u v x y (inl a) (inr b) = absurd (b .0 (a .0))
+  any-outcome-one u v x y (inr a) (inl b) = absurd (a .0 (b .0))
+  any-outcome-one u v x y (inr a) (inr b) = (a .1 ∙ sym (b .1), a .2 ∙ sym (b .2))

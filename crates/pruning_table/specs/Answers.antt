@@ -7,7 +7,7 @@ use Prim.Native.Nat.{ℕ, _*_, _≤_, _<_}
 use lib.ListN.{length}
 use Rattle.base.specs.Lists.{Under}
 use Rattle.pruning_table.specs.Pairs.{next, held, Least, Known}
-use Rattle.pruning_table.specs.Tables.{TableSizes, Ready}
+use Rattle.pruning_table.specs.Tables.{Counts, TableSizes, Ready}
 use Rattle.pruning_table.specs.declared.Built.{Built}
 use Rattle.pruning_table.specs.declared.Built.the-variants.{Done, Length, Entry, Unreached}
 use Rattle.pruning_table.specs.declared.Rule.{Rule}
@@ -58,3 +58,8 @@ Outcome t1 t2 n1 n2 k tab tab′ Done =
 Outcome t1 t2 n1 n2 k tab tab′ Unreached =
     Ready t1 t2 tab n1 n2 k × (length tab′ ≡ length tab)
     × Layer (next t1 t2 n2 k) k (n1 * n2) 254 tab′ × Unreached255 tab′
+
+-- the same at any counts: of counts that no table has, no length is right, which is 10
+abbrev pub AnyOutcome : List ℕ → List ℕ → ℕ → ℕ → ℕ → List ℕ → List ℕ → Built → Type 0
+AnyOutcome t1 t2 n1 n2 k tab tab′ r =
+    (Counts n1 n2 k × Outcome t1 t2 n1 n2 k tab tab′ r) ⊎ ((Counts n1 n2 k → ⊥) × (r ≡ Length) × (tab′ ≡ tab))

@@ -88,6 +88,28 @@ pub fn first_bad(t1: &[u16], t2: &[u16], tab: &[u8], n1: usize, n2: usize, k: us
 
 // ---- the builder
 
+// Whether there are tables of such counts.
+pub(crate) fn counts_fit(n1: usize, n2: usize, k: usize) -> bool
+    ensures { λ r. ⌜ Decides (Counts n1 n2 k) r ⌝ }
+{
+    if n1 == 0 {
+        return false;
+    }
+    if n2 == 0 {
+        return false;
+    }
+    if 65536 < n1 {
+        return false;
+    }
+    if 65536 < n2 {
+        return false;
+    }
+    if 256 < k {
+        return false;
+    }
+    true
+}
+
 // Whether every entry of a move table is below its count.
 fn all_below(t: &[u16], n: usize) -> bool
     ensures { λ r. ⌜ Decides (Under n (now (t .entry))) r ⌝ }

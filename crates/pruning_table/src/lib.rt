@@ -1,5 +1,5 @@
 // The pruning tables: kewb's src/two_phase/pruning.rs.
-ghost use Rattle.pruning_table.specs.Answers.{Outcome};
+ghost use Rattle.pruning_table.specs.Answers.{Outcome, AnyOutcome};
 ghost use Rattle.pruning_table.specs.Block.{AllOutcome};
 ghost use Rattle.pruning_table.specs.Check.{Checks};
 use move_table::MOVES_LEN;
@@ -41,6 +41,23 @@ pub enum Checked {
     Length,
     // 13: the lowest table that isn't true, and its lowest bad entry
     Bad(u8, usize),
+}
+
+// A pruning table over two move tables of n1 and n2 rows and of k moves.
+pub fn get_prune_table(
+    t1: &[u16],
+    t2: &[u16],
+    table: &mut [u8],
+    n1: usize,
+    n2: usize,
+    k: usize,
+) -> Built
+    ensures { λ r. ⌜ AnyOutcome (now (t1 .entry)) (now (t2 .entry)) n1 n2 k (now (table .entry)) (now (table .exit)) r ⌝ }
+{
+    if !inner::counts_fit(n1, n2, k) {
+        return Built::Length;
+    }
+    inner::get_prune_table(t1, t2, table, n1, n2, k)
 }
 
 // Table 6: the twists of the corners and the places of the middle layer's edges, by all moves.
