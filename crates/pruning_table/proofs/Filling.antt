@@ -1,26 +1,25 @@
 -- The builder of all four pruning tables: the scan of the six move tables, one table in its part of the block, and the tables before it.
 -- Assumes nothing.
-use mathlib.Core.Path.{_≡_, refl, sym, ap, ap₂, subst, subst₂, _∙_}
+use mathlib.Core.Path.{_≡_, sym, ap, ap₂, subst, subst₂, _∙_}
 use mathlib.Core.Bool.{Bool, true, false}
-use mathlib.Core.Logic.{⊎-elim, inl, inr}
-use mathlib.Core.List.{List, [], _∷_, _++_}
-use Prim.Native.Nat.{ℕ, zero, suc, _+_, _-_, _*_, _≤_, _<_}
+use mathlib.Core.Logic.{⊎-elim, inl}
+use mathlib.Core.List.{List, _++_}
+use Prim.Native.Nat.{ℕ, _+_, _-_, _*_, _≤_, _<_}
 use native.Mathlib.Nat.{not-suc-le-zero, eq-or-lt-of-le}
 use native.Mathlib.Omega.{arith}
 use borrow.Rule.Slice.PartMut.{putMid, same-len-mid}
-use lib.ListN.{length, getD, take, drop, length-take, length-drop, take-append-drop}
-use lib.Seq.{take-at, drop-at, drop-drop, take-take, length-take-le, take-append-le, drop-append-le, drop-append-add}
+use lib.ListN.{length, take, drop, length-take, length-drop, take-append-drop}
+use lib.Seq.{take-at, drop-at, drop-drop, length-take-le, take-append-le, drop-append-le, drop-append-add}
 use Rattle.base.specs.Lists.{Under}
 use Rattle.base.proofs.Perm.{less-cut}
 use Rattle.move_table.specs.Tables.{tableAt, columns}
 use Rattle.pruning_table.specs.Answers.{Decides, Unreached255, Layer, Outcome}
-use Rattle.pruning_table.specs.Block.{AllBelow, AllFilled, Filled, Missing, SomeMissing, Refilled}
+use Rattle.pruning_table.specs.Block.{AllBelow, Filled, Missing, Refilled}
 use Rattle.pruning_table.specs.Check.{beginsAt, firstOf, secondOf, rows, entries, part, stepOf, Blocks}
-use Rattle.pruning_table.specs.Pairs.{next, held}
-use Rattle.pruning_table.specs.declared.Built.{Built}
+use Rattle.pruning_table.specs.Pairs.{next}
 use Rattle.pruning_table.specs.declared.Built.the-variants.{Done, Length, Entry, Unreached}
-use Rattle.pruning_table.proofs.Parts.{Spot, spot-sizes, spot-len, spot-end, spot-first, spot-second, slice1, slice2, slice}
-use Rattle.pruning_table.proofs.Ten.{by-prune, part-length, prune-within}
+use Rattle.pruning_table.proofs.Parts.{Spot, spot-sizes, spot-len, spot-end, spot-first, spot-second, slice1, slice2}
+use Rattle.pruning_table.proofs.Ten.{by-prune}
 
 -- ---- the scan
 

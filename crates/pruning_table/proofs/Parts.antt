@@ -135,7 +135,7 @@ module _ {t a b k n1 n2 i j p : ℕ} (s : Spot t a b k n1 n2 i j p) where
     pub slice2 : take (j + n2 * k - j) (drop j moves) ≡ part (secondOf t) moves
     slice2 = slice-is b moves j (n2 * k) (s .at2) spot-len2 ∙ ap (λ (x : ℕ). part x moves) (s .second)
 
-    pub slice : take (p + n1 * n2 - p) (drop p prunes) ≡ part t prunes
+    slice : take (p + n1 * n2 - p) (drop p prunes) ≡ part t prunes
     slice = slice-is t prunes p (n1 * n2) (s .at) spot-len
 
     pub spot-counts : Counts n1 n2 k

@@ -1,6 +1,5 @@
 -- `pruning_table::get_prune_tables` meets its contract. Assumes nothing.
 use mathlib.Core.Path.{refl}
-use native.Mathlib.Omega.{arith}
 use borrow.Author.Tests.{not-true, not-false}
 use denote.Ref.{now}
 use Rattle.pruning_table.specs.Block.{AllBelow}

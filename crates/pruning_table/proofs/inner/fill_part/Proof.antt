@@ -1,5 +1,4 @@
 -- `pruning_table::inner::fill_part` meets its contract. Assumes nothing.
-use Prim.Native.Nat.{_*_}
 use native.Mathlib.Omega.{arith}
 use denote.Ref.{now}
 use Rattle.pruning_table.proofs.Filling.{done-fills, unreached-fills, no-length, no-entry}
