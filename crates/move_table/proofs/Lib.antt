@@ -1,5 +1,6 @@
 pub mod After
 pub mod Block
+pub mod Constants
 pub mod Cubes
 pub mod Entries
 pub mod Offs

@@ -1,2 +1,3 @@
+pub mod Constants
 pub mod Layout
 pub mod Tables

@@ -7,6 +7,7 @@ ghost use Rattle.base.specs.Product.{compose};
 ghost use Rattle.cubie.specs.Cube.{moveOf};
 ghost use Rattle.index.specs.Kinds.{co, eo, cp};
 ghost use Rattle.move_table.specs.Tables.{tableAt, columns, size, trueRow, trueTable, firstOff, Domain, moved, cubesTo};
+use crate::E_EP_TABLE;
 use cubie::inner::move_state;
 use cubie::inner::put_cube;
 use index::Co;
@@ -242,11 +243,29 @@ fn bad_in_row(t: u8, i: u16, cubes: &[u8], row: &[u16]) -> usize
     j
 }
 
+// The lowest entry of table 5 that isn't as the constants have it, or their number.
+fn bad_of_constants(table: &[u16]) -> usize
+    requires { ⌜ length (now table) ≡ size (tableAt 5) ⌝ }
+    ensures { λ r. ⌜ r ≡ firstOff (trueTable (tableAt 5)) (now (table .entry)) ⌝ }
+{
+    let mut e = 0;
+    while e < table.len() {
+        if table[e] != E_EP_TABLE[e] {
+            return e;
+        }
+        e += 1;
+    }
+    e
+}
+
 // The lowest entry of table t that isn't true, or their number.
 pub fn first_bad(t: u8, table: &[u16]) -> usize
     requires { ⌜ (t < 6) × (length (now table) ≡ size (tableAt t)) ⌝ }
     ensures { λ r. ⌜ r ≡ firstOff (trueTable (tableAt t)) (now (table .entry)) ⌝ }
 {
+    if t == 5 {
+        return bad_of_constants(table);
+    }
     let cubes = move_cubes();
     let rows = rows_of(t);
     let columns = columns_of(t);
