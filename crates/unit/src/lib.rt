@@ -1,36 +1,23 @@
 // The C interface, for the trainer's firmware and for Rust: each function returns the paper's number, 0 for none, and writes into lent
 // bytes, which a refusal leaves as they were. A lent slice of another length than is said is refused with 10, before all else.
+// Each is the function of the same name in `calls`, `texts` or `coordinate`.
 ghost use mathlib.Core.Path.{_≡_};
-ghost use Rattle.unit.specs.Calls.{Leaves, mulCall, moveCall, movesCall, solvedCall, solvableCall, countsCall, inverseMoveCall, ofTwoCall};
-ghost use Rattle.unit.specs.Calls.{readCall, pictureCall};
+ghost use Rattle.calls.specs.Calls.{Leaves, mulCall, moveCall, movesCall, solvedCall, solvableCall, countsCall, inverseMoveCall, ofTwoCall};
+ghost use Rattle.coordinate.specs.Calls.{indexNumber, indexLeft, arrangeNumber, arrangeLeft};
 ghost use Rattle.facelet.specs.Reader.{readPlain, readStrict};
 ghost use Rattle.moves.specs.Moves.{isInverse, isSameLayer, isAvailable};
 ghost use Rattle.scramble.specs.Answers.{parsedText, parsedRoom, writtenText, writtenRoom};
 ghost use Rattle.scramble.specs.Text.{textOf};
-ghost use Rattle.unit.specs.Text.{parsedNumber, parsedCount, writtenNumber, writtenCount};
-ghost use Rattle.unit.specs.Judge.{judgeNumber, judgeRoom, judgeCount};
-ghost use Rattle.coordinate.specs.Calls.{indexNumber, indexLeft, arrangeNumber, arrangeLeft};
-use cubie::inner;
-use scramble::Parsed;
-use scramble::Written;
-
-mod lent;
+ghost use Rattle.texts.specs.Judge.{judgeNumber, judgeRoom, judgeCount};
+ghost use Rattle.texts.specs.Stickers.{readCall, pictureCall};
+ghost use Rattle.texts.specs.Text.{parsedNumber, parsedCount, writtenNumber, writtenCount};
 
 // The product of two cubes of 40 bytes each: cp 8, co 8, ep 12, eo 12.
 #[no_mangle]
 pub extern "C" fn tsunghawi_mul(a: &[u8], b: &[u8], out: &mut [u8]) -> u8
     ensures { λ r. ⌜ Leaves (mulCall (now (a .entry)) (now (b .entry)) (now (out .entry))) r (now (out .exit)) ⌝ }
 {
-    if a.len() != 40 {
-        return 10;
-    }
-    if b.len() != 40 {
-        return 10;
-    }
-    if out.len() != 40 {
-        return 10;
-    }
-    lent::leave_cube(lent::cube_of(a).mul(lent::cube_of(b)), out)
+    calls::mul(a, b, out)
 }
 
 // The cube after one move.
@@ -38,13 +25,7 @@ pub extern "C" fn tsunghawi_mul(a: &[u8], b: &[u8], out: &mut [u8]) -> u8
 pub extern "C" fn tsunghawi_apply_move(cube: &[u8], m: u8, out: &mut [u8]) -> u8
     ensures { λ r. ⌜ Leaves (moveCall (now (cube .entry)) m (now (out .entry))) r (now (out .exit)) ⌝ }
 {
-    if cube.len() != 40 {
-        return 10;
-    }
-    if out.len() != 40 {
-        return 10;
-    }
-    lent::leave_cube(lent::cube_of(cube).apply_move(m), out)
+    calls::apply_move(cube, m, out)
 }
 
 // The cube after a list of moves, a byte each.
@@ -52,13 +33,7 @@ pub extern "C" fn tsunghawi_apply_move(cube: &[u8], m: u8, out: &mut [u8]) -> u8
 pub extern "C" fn tsunghawi_apply_moves(cube: &[u8], moves: &[u8], out: &mut [u8]) -> u8
     ensures { λ r. ⌜ Leaves (movesCall (now (cube .entry)) (now (moves .entry)) (now (out .entry))) r (now (out .exit)) ⌝ }
 {
-    if cube.len() != 40 {
-        return 10;
-    }
-    if out.len() != 40 {
-        return 10;
-    }
-    lent::leave_cube(lent::cube_of(cube).apply_moves(moves), out)
+    calls::apply_moves(cube, moves, out)
 }
 
 // Whether a cube is solved: one byte, 1 or 0.
@@ -66,13 +41,7 @@ pub extern "C" fn tsunghawi_apply_moves(cube: &[u8], moves: &[u8], out: &mut [u8
 pub extern "C" fn tsunghawi_is_solved(cube: &[u8], out: &mut [u8]) -> u8
     ensures { λ r. ⌜ Leaves (solvedCall (now (cube .entry)) (now (out .entry))) r (now (out .exit)) ⌝ }
 {
-    if cube.len() != 40 {
-        return 10;
-    }
-    if out.len() != 1 {
-        return 10;
-    }
-    lent::leave_answer(lent::cube_of(cube).is_solved(), out)
+    calls::is_solved(cube, out)
 }
 
 // Whether a cube is solvable: one byte, 1 or 0.
@@ -80,13 +49,7 @@ pub extern "C" fn tsunghawi_is_solved(cube: &[u8], out: &mut [u8]) -> u8
 pub extern "C" fn tsunghawi_is_solvable(cube: &[u8], out: &mut [u8]) -> u8
     ensures { λ r. ⌜ Leaves (solvableCall (now (cube .entry)) (now (out .entry))) r (now (out .exit)) ⌝ }
 {
-    if cube.len() != 40 {
-        return 10;
-    }
-    if out.len() != 1 {
-        return 10;
-    }
-    lent::leave_answer(lent::cube_of(cube).is_solvable(), out)
+    calls::is_solvable(cube, out)
 }
 
 // The four counts, a byte each: corner twists, edge flips, corner swaps, edge swaps.
@@ -94,22 +57,7 @@ pub extern "C" fn tsunghawi_is_solvable(cube: &[u8], out: &mut [u8]) -> u8
 pub extern "C" fn tsunghawi_counts(cube: &[u8], out: &mut [u8]) -> u8
     ensures { λ r. ⌜ Leaves (countsCall (now (cube .entry)) (now (out .entry))) r (now (out .exit)) ⌝ }
 {
-    if cube.len() != 40 {
-        return 10;
-    }
-    if out.len() != 4 {
-        return 10;
-    }
-    let c = lent::cube_of(cube);
-    let refusal = inner::refusal(c);
-    if refusal != 0 {
-        return refusal;
-    }
-    out[0] = inner::count_corner_twist(c);
-    out[1] = inner::count_edge_twist(c);
-    out[2] = inner::count_corner_perm(c);
-    out[3] = inner::count_edge_perm(c);
-    0
+    calls::counts(cube, out)
 }
 
 // The move that takes `m` back: one byte.
@@ -117,30 +65,21 @@ pub extern "C" fn tsunghawi_counts(cube: &[u8], out: &mut [u8]) -> u8
 pub extern "C" fn tsunghawi_get_inverse(m: u8, out: &mut [u8]) -> u8
     ensures { λ r. ⌜ Leaves (inverseMoveCall m (now (out .entry))) r (now (out .exit)) ⌝ }
 {
-    if out.len() != 1 {
-        return 10;
-    }
-    lent::leave_number(moves::get_inverse(m), out)
+    calls::get_inverse(m, out)
 }
 
 #[no_mangle]
 pub extern "C" fn tsunghawi_is_inverse(m: u8, other: u8, out: &mut [u8]) -> u8
     ensures { λ r. ⌜ Leaves (ofTwoCall isInverse m other (now (out .entry))) r (now (out .exit)) ⌝ }
 {
-    if out.len() != 1 {
-        return 10;
-    }
-    lent::leave_answer(moves::is_inverse(m, other), out)
+    calls::is_inverse(m, other, out)
 }
 
 #[no_mangle]
 pub extern "C" fn tsunghawi_is_same_layer(m: u8, other: u8, out: &mut [u8]) -> u8
     ensures { λ r. ⌜ Leaves (ofTwoCall isSameLayer m other (now (out .entry))) r (now (out .exit)) ⌝ }
 {
-    if out.len() != 1 {
-        return 10;
-    }
-    lent::leave_answer(moves::is_same_layer(m, other), out)
+    calls::is_same_layer(m, other, out)
 }
 
 // Whether `current` may follow `prev`: one byte, 1 or 0.
@@ -148,10 +87,7 @@ pub extern "C" fn tsunghawi_is_same_layer(m: u8, other: u8, out: &mut [u8]) -> u
 pub extern "C" fn tsunghawi_is_move_available(prev: u8, current: u8, out: &mut [u8]) -> u8
     ensures { λ r. ⌜ Leaves (ofTwoCall isAvailable prev current (now (out .entry))) r (now (out .exit)) ⌝ }
 {
-    if out.len() != 1 {
-        return 10;
-    }
-    lent::leave_answer(moves::is_move_available(prev, current), out)
+    calls::is_move_available(prev, current, out)
 }
 
 // The cube that 54 stickers are read as, as kewb reads: what matches no piece is taken for the solved one.
@@ -159,10 +95,7 @@ pub extern "C" fn tsunghawi_is_move_available(prev: u8, current: u8, out: &mut [
 pub extern "C" fn tsunghawi_read_plain(stickers: &[u8], out: &mut [u8]) -> u8
     ensures { λ r. ⌜ Leaves (readCall readPlain (now (stickers .entry)) (now (out .entry))) r (now (out .exit)) ⌝ }
 {
-    if out.len() != 40 {
-        return 10;
-    }
-    lent::leave_cube(facelet::read_plain(stickers), out)
+    texts::read_plain(stickers, out)
 }
 
 // The cube whose picture the 54 stickers are, and no other.
@@ -170,10 +103,7 @@ pub extern "C" fn tsunghawi_read_plain(stickers: &[u8], out: &mut [u8]) -> u8
 pub extern "C" fn tsunghawi_read_strict(stickers: &[u8], out: &mut [u8]) -> u8
     ensures { λ r. ⌜ Leaves (readCall readStrict (now (stickers .entry)) (now (out .entry))) r (now (out .exit)) ⌝ }
 {
-    if out.len() != 40 {
-        return 10;
-    }
-    lent::leave_cube(facelet::read_strict(stickers), out)
+    texts::read_strict(stickers, out)
 }
 
 // The 54 stickers of a cube.
@@ -181,13 +111,7 @@ pub extern "C" fn tsunghawi_read_strict(stickers: &[u8], out: &mut [u8]) -> u8
 pub extern "C" fn tsunghawi_picture(cube: &[u8], out: &mut [u8]) -> u8
     ensures { λ r. ⌜ Leaves (pictureCall (now (cube .entry)) (now (out .entry))) r (now (out .exit)) ⌝ }
 {
-    if cube.len() != 40 {
-        return 10;
-    }
-    if out.len() != 54 {
-        return 10;
-    }
-    lent::leave_face(facelet::picture(lent::cube_of(cube)), out)
+    texts::picture(cube, out)
 }
 
 // The moves of a text, in the first places of `list`, and how many they are.
@@ -197,14 +121,7 @@ pub extern "C" fn tsunghawi_scramble_from_str(text: &[u8], list: &mut [u8], coun
     ensures { λ r. ⌜ now (list .exit) ≡ parsedRoom (now (text .entry)) (now (list .entry)) ⌝ }
     ensures { λ r. ⌜ now (count .exit) ≡ parsedCount (parsedText (now (text .entry)) (now (list .entry))) (now (count .entry)) ⌝ }
 {
-    let parsed = scramble::scramble_from_str(text, list);
-    match parsed {
-        Parsed::Refused(n) => n,
-        Parsed::Moves(k) => {
-            *count = k;
-            0
-        }
-    }
+    texts::scramble_from_str(text, list, count)
 }
 
 // The text of a list of moves, in the first bytes of `text`, and how many they are.
@@ -214,14 +131,7 @@ pub extern "C" fn tsunghawi_scramble_to_str(list: &[u8], text: &mut [u8], count:
     ensures { λ r. ⌜ now (text .exit) ≡ writtenRoom (now (list .entry)) (textOf (now (list .entry))) (now (text .entry)) ⌝ }
     ensures { λ r. ⌜ now (count .exit) ≡ writtenCount (writtenText (now (list .entry)) (textOf (now (list .entry))) (now (text .entry))) (now (count .entry)) ⌝ }
 {
-    let written = scramble::scramble_to_str(list, text);
-    match written {
-        Written::Refused(n) => n,
-        Written::Bytes(size) => {
-            *count = size;
-            0
-        }
-    }
+    texts::scramble_to_str(list, text, count)
 }
 
 // Whether moves solve a cube: what the program `judge` prints for `input`, in the first of 64 bytes, and how many they are.
@@ -231,14 +141,7 @@ pub extern "C" fn tsunghawi_judge(input: &[u8], out: &mut [u8], count: &mut usiz
     ensures { λ r. ⌜ now (out .exit) ≡ judgeRoom (now (input .entry)) (now (out .entry)) ⌝ }
     ensures { λ r. ⌜ now (count .exit) ≡ judgeCount (now (input .entry)) (now (out .entry)) (now (count .entry)) ⌝ }
 {
-    if out.len() != 64 {
-        return 10;
-    }
-    let said = judgement::judge(input);
-    let text = said.text;
-    pieces::inner::copy_in(&text, out, 0);
-    *count = said.len;
-    0
+    texts::judge(input, out, count)
 }
 
 // The number of an arrangement, `kind` being 0 co, 1 eo, 2 e_combo, 3 cp, 4 ud_ep, 5 e_ep, 6 ep: 8 places for co and cp, else 12.

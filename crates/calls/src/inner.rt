@@ -1,0 +1,75 @@
+// Cubes and answers as lent bytes.
+ghost use mathlib.Core.Path.{_≡_};
+ghost use lib.ListN.{length};
+ghost use Rattle.calls.specs.Calls.{cubeOf, Leaves, cubeLeft, answerLeft, numberLeft};
+use cubie::CubeAnswer;
+use cubie::CubieCube;
+use cubie::inner::put_cube;
+use moves::Answer;
+use moves::Number;
+use moves::Verdict;
+use pieces::inner::copy_in;
+
+// A cube from its 40 bytes.
+pub fn cube_of(s: &[u8]) -> CubieCube
+    requires { ⌜ length (now s) ≡ 40 ⌝ }
+    ensures { λ r. ⌜ r ≡ cubeOf (now (s .entry)) ⌝ }
+{
+    let mut cp = [0u8; 8];
+    let mut co = [0u8; 8];
+    let mut ep = [0u8; 12];
+    let mut eo = [0u8; 12];
+    copy_in(&s[0..8], &mut cp, 0);
+    copy_in(&s[8..16], &mut co, 0);
+    copy_in(&s[16..28], &mut ep, 0);
+    copy_in(&s[28..40], &mut eo, 0);
+    CubieCube { cp, co, ep, eo }
+}
+
+// The number of an answer; its cube is written, unless it is refused.
+pub fn leave_cube(a: CubeAnswer, out: &mut [u8]) -> u8
+    requires { ⌜ length (now out) ≡ 40 ⌝ }
+    ensures { λ r. ⌜ Leaves (cubeLeft a (now (out .entry))) r (now (out .exit)) ⌝ }
+{
+    let verdict = a.verdict;
+    match verdict {
+        Verdict::Refused(n) => n,
+        Verdict::Good => {
+            let cube = a.cube;
+            put_cube(cube, out);
+            0
+        }
+    }
+}
+
+// The same for yes or no, in one byte: 1 or 0.
+pub fn leave_answer(a: Answer, out: &mut [u8]) -> u8
+    requires { ⌜ length (now out) ≡ 1 ⌝ }
+    ensures { λ r. ⌜ Leaves (answerLeft a (now (out .entry))) r (now (out .exit)) ⌝ }
+{
+    match a {
+        Answer::Refused(n) => n,
+        Answer::Yes => {
+            out[0] = 1;
+            0
+        }
+        Answer::No => {
+            out[0] = 0;
+            0
+        }
+    }
+}
+
+// The same for a number, in one byte.
+pub fn leave_number(a: Number, out: &mut [u8]) -> u8
+    requires { ⌜ length (now out) ≡ 1 ⌝ }
+    ensures { λ r. ⌜ Leaves (numberLeft a (now (out .entry))) r (now (out .exit)) ⌝ }
+{
+    match a {
+        Number::Refused(n) => n,
+        Number::Is(k) => {
+            out[0] = k;
+            0
+        }
+    }
+}

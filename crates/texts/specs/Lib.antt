@@ -1,0 +1,3 @@
+pub mod Judge
+pub mod Stickers
+pub mod Text
