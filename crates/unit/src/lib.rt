@@ -1,6 +1,6 @@
 // The C interface, for the trainer's firmware and for Rust: each function returns the paper's number, 0 for none, and writes into lent
 // bytes, which a refusal leaves as they were. A lent slice of another length than is said is refused with 10, before all else.
-// Each is the function of the same name in `calls`, `texts` or `coordinate`.
+// Each is the function of the same name in `calls`, `texts`, `coordinate` or `table_calls`.
 ghost use mathlib.Core.Path.{_≡_};
 ghost use Rattle.calls.specs.Calls.{Leaves, mulCall, moveCall, movesCall, solvedCall, solvableCall, countsCall, inverseMoveCall, ofTwoCall};
 ghost use Rattle.coordinate.specs.Calls.{indexNumber, indexLeft, arrangeNumber, arrangeLeft};
@@ -11,6 +11,7 @@ ghost use Rattle.scramble.specs.Text.{textOf};
 ghost use Rattle.texts.specs.Judge.{judgeNumber, judgeRoom, judgeCount};
 ghost use Rattle.texts.specs.Stickers.{readCall, pictureCall};
 ghost use Rattle.texts.specs.Text.{parsedNumber, parsedCount, writtenNumber, writtenCount};
+ghost use Rattle.table_calls.specs.Calls.{tableNumber, tableLeft, blockNumber, blockLeft, PruneCall, PairsCall, PrunesCall, CheckCall};
 
 // The product of two cubes of 40 bytes each: cp 8, co 8, ep 12, eo 12.
 #[no_mangle]
@@ -160,4 +161,66 @@ pub extern "C" fn tsunghawi_index_to_arrangement(kind: u8, number: u32, places: 
     ensures { λ r. ⌜ now (places .exit) ≡ arrangeLeft kind number (now (places .entry)) ⌝ }
 {
     coordinate::from_index(kind, number, places)
+}
+
+// Move table t, 0 to 5.
+#[no_mangle]
+pub extern "C" fn tsunghawi_get_move_table(t: u8, table: &mut [u16]) -> u8
+    ensures { λ r. ⌜ r ≡ tableNumber t (now (table .entry)) ⌝ }
+    ensures { λ r. ⌜ now (table .exit) ≡ tableLeft t (now (table .entry)) ⌝ }
+{
+    table_calls::get_move_table(t, table)
+}
+
+// All six move tables in one block.
+#[no_mangle]
+pub extern "C" fn tsunghawi_get_move_tables(moves: &mut [u16]) -> u8
+    ensures { λ r. ⌜ r ≡ blockNumber (now (moves .entry)) ⌝ }
+    ensures { λ r. ⌜ now (moves .exit) ≡ blockLeft (now (moves .entry)) ⌝ }
+{
+    table_calls::get_move_tables(moves)
+}
+
+// Pruning table t, 6 to 9, by its two move tables. After 14 the lent table is changed: pairs out of reach hold 255.
+#[no_mangle]
+pub extern "C" fn tsunghawi_get_prune_table(
+    t: u8,
+    first: &[u16],
+    second: &[u16],
+    table: &mut [u8],
+) -> u8
+    ensures { λ r. ⌜ PruneCall t (now (first .entry)) (now (second .entry)) (now (table .entry)) (now (table .exit)) r ⌝ }
+{
+    table_calls::get_prune_table(t, first, second, table)
+}
+
+// A pruning table by two move tables of any numbers of rows, 1 to 65,536 each, and of up to 256 moves.
+#[no_mangle]
+pub extern "C" fn tsunghawi_get_pairs_table(
+    first: &[u16],
+    second: &[u16],
+    table: &mut [u8],
+    rows1: usize,
+    rows2: usize,
+    moves: usize,
+) -> u8
+    ensures { λ r. ⌜ PairsCall (now (first .entry)) (now (second .entry)) rows1 rows2 moves (now (table .entry)) (now (table .exit)) r ⌝ }
+{
+    table_calls::get_pairs_table(first, second, table, rows1, rows2, moves)
+}
+
+// All four pruning tables in one block, by the block of move tables. After 14 the lent block is changed in the same way.
+#[no_mangle]
+pub extern "C" fn tsunghawi_get_prune_tables(moves: &[u16], prunes: &mut [u8]) -> u8
+    ensures { λ r. ⌜ PrunesCall (now (moves .entry)) (now (prunes .entry)) (now (prunes .exit)) r ⌝ }
+{
+    table_calls::get_prune_tables(moves, prunes)
+}
+
+// The check of all ten tables: 0, 10, or 13 + 256 * the lowest bad table + 65536 * its lowest bad entry; the low byte is the paper's number.
+#[no_mangle]
+pub extern "C" fn tsunghawi_check_tables(moves: &[u16], prunes: &[u8]) -> u64
+    ensures { λ r. ⌜ CheckCall (now (moves .entry)) (now (prunes .entry)) r ⌝ }
+{
+    table_calls::check_tables(moves, prunes)
 }
