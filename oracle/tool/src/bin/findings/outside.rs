@@ -9,6 +9,9 @@ use kewb::pruning_table::get_prune_table;
 use kewb::{DataTable, FaceCube};
 use std::fmt::Debug;
 use std::panic::{self, AssertUnwindSafe};
+use std::sync::mpsc::{self, RecvTimeoutError};
+use std::thread;
+use std::time::Duration;
 use tool::coords::{cube_of, Kind, KINDS};
 use tool::cubes::{in_range, raw, solved};
 use tool::search::{crate_search, search, Answer};
@@ -74,6 +77,34 @@ fn arrays() {
     tell("e_combo_to_index, no edge below 4", || e_combo_to_index(&with_edges([4; 12]).ep));
     tell("co_to_index, all 255", || co_to_index(&[255; 8]));
     tell("eo_to_index, all 255", || eo_to_index(&[255; 12]));
+    repeats();
+}
+
+/// A piece twice in a coordinate's own places: its number is that of another array too.
+fn repeats() {
+    let corner = with_corners([0, 0, 2, 3, 4, 5, 6, 7]);
+    tell("cp_to_index, corner 0 twice (0,0,2,3,4,5,6,7), and the array of that number", || {
+        let n = cp_to_index(&corner.cp);
+        (n, index_to_cp(n).map(|c| c as u8))
+    });
+    let edge = with_edges([0, 0, 2, 3, 4, 4, 6, 7, 8, 9, 10, 11]);
+    tell("ep_to_index, ud_ep_to_index, e_ep_to_index, edges 0 and 4 twice (0,0,2,3,4,4,6,7,8,9,10,11)", || {
+        (ep_to_index(&edge.ep), ud_ep_to_index(&edge.ep), e_ep_to_index(&edge.ep))
+    });
+    tell("the arrays of those three numbers", || {
+        let arrays = (
+            index_to_ep(ep_to_index(&edge.ep)),
+            index_to_ud_ep(ud_ep_to_index(&edge.ep)),
+            index_to_e_ep(e_ep_to_index(&edge.ep)),
+        );
+        [arrays.0, arrays.1, arrays.2].map(|array| array.map(|e| e as u8))
+    });
+}
+
+fn with_corners(cp: [u8; 8]) -> CubieCube {
+    let mut r = raw(&solved());
+    r[..8].copy_from_slice(&cp);
+    in_range(&r).unwrap()
 }
 
 fn twisted(place: usize, twist: u8) -> CubieCube {
@@ -149,9 +180,16 @@ fn pruning() {
         get_prune_table(table(2, 2), table(1, 0), &PHASE2_MOVES)
     });
     let unreached = "get_prune_table, a pair out of reach (2 rows, entry 0)";
-    if cfg!(debug_assertions) {
-        tell(unreached, || get_prune_table(table(2, 0), table(1, 0), &PHASE2_MOVES));
-    } else {
-        println!("{unreached}: not run with overflow checks off, where the distance wraps and the loop goes on");
+    match within(Duration::from_secs(10), move || get_prune_table(table(2, 0), table(1, 0), &PHASE2_MOVES)) {
+        Ok(table) => println!("{unreached}: {table:?}"),
+        Err(RecvTimeoutError::Timeout) => println!("{unreached}: no end after 10 seconds"),
+        Err(RecvTimeoutError::Disconnected) => println!("{unreached}: panic"),
     }
+}
+
+/// What a run gives in so much time; a run that goes on is left alone, and ends with the program.
+fn within<R: Send + 'static>(time: Duration, run: impl FnOnce() -> R + Send + 'static) -> Result<R, RecvTimeoutError> {
+    let (send, receive) = mpsc::channel();
+    thread::spawn(move || send.send(run()));
+    receive.recv_timeout(time)
 }
