@@ -1,5 +1,5 @@
 //! The product's C interface and safe calls of it. Every function gives the paper's refusal number, 0 for none.
-use crate::lent::{lend, lend_bytes, lend_list, lend_moves, lend_number, lend_table, lend_text, Outcome};
+use crate::lent::{lend, lend_bytes, lend_list, lend_moves, lend_number, lend_rooms, lend_table, lend_text, Outcome, Rooms};
 use wire::Cube;
 
 extern "C" {
@@ -51,6 +51,20 @@ extern "C" {
         moves: usize,
     ) -> u8;
     fn tsunghawi_check_tables(moves: *const u16, moves_len: usize, prunes: *const u8, prunes_len: usize) -> u64;
+    fn tsunghawi_solve(
+        cube: *const u8,
+        cube_len: usize,
+        limit: u8,
+        budget: u32,
+        moves: *const u16,
+        moves_len: usize,
+        prunes: *const u8,
+        prunes_len: usize,
+        one: *mut u8,
+        one_len: usize,
+        two: *mut u8,
+        two_len: usize,
+    ) -> u64;
 }
 
 // SAFETY of every call below: pointers and lengths are those of live slices, and the lenders give memory of that length.
@@ -168,4 +182,12 @@ pub fn get_pairs_table(
 /// The check of all ten tables: the number in the low byte, then the table, then the entry.
 pub fn check_tables(moves: &[u16], prunes: &[u8]) -> u64 {
     unsafe { tsunghawi_check_tables(moves.as_ptr(), moves.len(), prunes.as_ptr(), prunes.len()) }
+}
+
+/// The search: the word that it returns, and the two rooms for lists after it.
+pub fn solve(cube: &Cube, limit: u8, budget: u32, moves: &[u16], prunes: &[u8]) -> Option<(u64, Rooms)> {
+    lend_rooms(|[one, two], n| unsafe {
+        let (m, p) = (moves.as_ptr(), prunes.as_ptr());
+        tsunghawi_solve(cube.as_ptr(), 40, limit, budget, m, moves.len(), p, prunes.len(), one, n, two, n)
+    })
 }

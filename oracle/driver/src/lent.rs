@@ -102,3 +102,18 @@ fn lend_part(n: usize, rest: u8, call: impl FnOnce(*mut u8, usize, *mut usize) -
         other => other,
     }
 }
+
+/// Two rooms for lists of moves; None where nothing was written.
+pub type Rooms = [Option<Vec<u8>>; 2];
+
+/// Lends two rooms of 31 bytes; None where the call wrote beside them.
+pub fn lend_rooms(call: impl FnOnce([*mut u8; 2], usize) -> u64) -> Option<(u64, Rooms)> {
+    const N: usize = 31;
+    let mut rooms = [[UNTOUCHED; SIDE + N + SIDE]; 2];
+    let [one, two] = &mut rooms;
+    let word = call([one.as_mut_ptr().wrapping_add(SIDE), two.as_mut_ptr().wrapping_add(SIDE)], N);
+    let untouched = |part: &[u8]| part.iter().all(|&b| b == UNTOUCHED);
+    let beside = |room: &[u8]| untouched(&room[..SIDE]) && untouched(&room[SIDE + N..]);
+    let written = |room: [u8; SIDE + N + SIDE]| Some(room[SIDE..SIDE + N].to_vec()).filter(|lent| !untouched(lent));
+    rooms.iter().all(|room| beside(room)).then(|| (word, rooms.map(written)))
+}

@@ -5,6 +5,7 @@ mod ffi;
 mod lent;
 mod lines;
 mod protocol;
+mod solve;
 mod stickers;
 mod tables;
 mod text;

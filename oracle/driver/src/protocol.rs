@@ -1,12 +1,12 @@
 //! Which requests the product answers today.
-use crate::{coords, cubie, stickers, tables, text};
+use crate::{coords, cubie, solve, stickers, tables, text};
 use wire::{Args, NAMES};
 
 /// A request's name, the C function that it needs, and the answer to its fields, None where they don't fit.
 type Request = (&'static str, &'static str, fn(&Args) -> Option<String>);
 
 /// A request that the product offers is one line here and one function.
-const OFFERED: [Request; 26] = [
+const OFFERED: [Request; 27] = [
     ("solvable", "tsunghawi_is_solvable", cubie::solvable),
     ("solved", "tsunghawi_is_solved", cubie::solved),
     ("counts", "tsunghawi_counts", cubie::counts),
@@ -33,6 +33,7 @@ const OFFERED: [Request; 26] = [
     ("mend", "tsunghawi_get_prune_tables", tables::mend),
     ("build", "tsunghawi_get_prune_table", tables::build),
     ("pairs", "tsunghawi_get_pairs_table", tables::pairs),
+    ("solve", "tsunghawi_solve", solve::solve),
 ];
 
 /// Whether the library that was linked has a function.

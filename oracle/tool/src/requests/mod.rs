@@ -1,6 +1,7 @@
 //! The requests of each step's comparison, and the samples of them that are recorded.
 pub mod coords;
 pub mod cubie;
+pub mod solve;
 pub mod stickers;
 pub mod tables;
 pub mod text;
@@ -20,11 +21,12 @@ pub struct Step {
     pub things: &'static str,
 }
 
-pub const STEPS: [Step; 5] = [
+pub const STEPS: [Step; 6] = [
     Step { name: "cubie", compare: cubie::compare, things: "cubes" },
     Step { name: "stickers", compare: stickers::compare, things: "sticker strings and cubes" },
     Step { name: "text", compare: text::compare, things: "texts, lists and inputs" },
     Step { name: "coords", compare: coords::compare, things: "arrangements, numbers and cubes" },
+    Step { name: "solve", compare: solve::compare, things: "cubes and damages" },
     Step { name: "tables", compare: tables::compare, things: "damages and small move tables" },
 ];
 
