@@ -1,5 +1,5 @@
 -- `checksum::step` meets its contract. Assumes nothing.
-use mathlib.Core.Path.{_≡_, _∙_}
+use mathlib.Core.Path.{_∙_}
 use native.Mathlib.Omega.{arith}
 use lib.Bits.{xor-lt}
 use Rattle.checksum.proofs.Turns.{step-is}

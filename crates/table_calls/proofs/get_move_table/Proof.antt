@@ -1,9 +1,8 @@
 -- `table_calls::get_move_table` meets its contract. Assumes nothing.
-use mathlib.Core.Path.{_≡_, sym, ap₂, _∙_}
+use mathlib.Core.Path.{sym, ap₂, _∙_}
 use Prim.Native.Nat.{_*_, _<_}
 use native.Mathlib.Omega.{arith}
 use denote.Ref.{now}
-use lib.ListN.{length}
 use Rattle.pruning_table.proofs.Parts.{len-is}
 use Rattle.pruning_table.proofs.Ten.{move-within}
 use Rattle.table_calls.proofs.Numbers.{no-table, other-size, unfit, fit}

@@ -1,13 +1,11 @@
 -- `table_file::to_bytes` meets its contract. Assumes nothing.
 use mathlib.Core.Path.{_≡_, refl, sym, _∙_}
-use mathlib.Core.Bool.{true, false}
 use Prim.Native.Nat.{_+_, _-_, _*_, _≤_, _<_}
 use native.Mathlib.Omega.{arith}
 use denote.Ref.{now}
 use lib.ListN.{length, take, set, length-set}
 use borrow.Author.Tests.{eqb-true, not-true, not-false}
 use Rattle.checksum.specs.Sum.{bytes16}
-use Rattle.table_file.specs.File.{twoEach}
 use borrow.Author.Needs.{needs}
 use Rattle.table_file.proofs.Bytes.{other-room, bytes-turn, bytes-all}
 use Rattle.table_file.proofs.to_bytes.Statement.{statement}

@@ -1,7 +1,6 @@
 -- `tables::read_moves` is safe and ends: each part lies within the entries that are left. Assumes nothing.
 use mathlib.Core.Path.{_≡_}
 use Prim.Native.Nat.{_-_, _≤_}
-use native.Mathlib.Omega.{arith}
 use lib.ListN.{length}
 use borrow.Author.Needs.{needs}
 use Rattle.tables.proofs.read_moves.Statement.{statement}

@@ -1,6 +1,5 @@
 -- `tables::write_moves` is safe and ends: each part lies within the entries that are left. Assumes nothing.
 use Prim.Native.Nat.{_-_, _≤_}
-use native.Mathlib.Omega.{arith}
 use lib.ListN.{length}
 use borrow.Author.Needs.{needs}
 use Rattle.tables.proofs.write_moves.Statement.{statement}

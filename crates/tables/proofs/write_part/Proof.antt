@@ -1,5 +1,4 @@
 -- `tables::write_part` is safe. Assumes nothing.
-use native.Mathlib.Omega.{arith}
 use denote.Ref.{now}
 use lib.ListN.{length}
 use Rattle.tables.proofs.Room.{front, room-kept, front-kept}
