@@ -4,7 +4,7 @@ use mathlib.Core.Bool.{Bool, _&&_}
 use mathlib.Core.List.{List, [], _∷_}
 use Prim.Native.Nat.{ℕ}
 use lib.Dec.{eqb}
-use lib.ListN.{length, take, drop}
+use lib.ListN.{length}
 use Rattle.base.specs.Lists.{pick}
 use Rattle.moves.specs.Answers.{ofTwo, inverseMoveAnswer}
 use Rattle.moves.specs.declared.Answer.{Answer}
@@ -14,7 +14,7 @@ use Rattle.moves.specs.declared.Number.the-variants as number
 use Rattle.moves.specs.declared.Verdict.{Verdict}
 use Rattle.moves.specs.declared.Verdict.the-variants as verdict
 use Rattle.cubie.specs.Answers.{mulAnswer, moveAnswer, movesAnswer, solvedAnswer, solvableAnswer}
-use Rattle.cubie.specs.Cube.{refusalOf, bytesOf}
+use Rattle.cubie.specs.Cube.{refusalOf, bytesOf, cubeOf}
 use Rattle.cubie.specs.Solvable.{cornerTwist, edgeTwist, cornerPerm, edgePerm}
 use Rattle.cubie.specs.declared.CubeAnswer.{CubeAnswer}
 use Rattle.cubie.specs.declared.CubieCube.{CubieCube}
@@ -34,10 +34,6 @@ refuse n before = record { number = n; bytes = before }
 
 abbrev pub leave : List ℕ → Left
 leave bytes = record { number = 0; bytes = bytes }
-
--- a cube as 40 bytes: cp 8, co 8, ep 12, eo 12
-abbrev pub cubeOf : List ℕ → CubieCube
-cubeOf s = record { cp = take 8 s; co = take 8 (drop 8 s); ep = take 12 (drop 16 s); eo = take 12 (drop 28 s) }
 
 -- the number and the value of each case of an answer
 abbrev pub verdictLeft : Verdict → CubieCube → List ℕ → Left

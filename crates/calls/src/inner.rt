@@ -1,30 +1,12 @@
 // Cubes and answers as lent bytes.
 ghost use mathlib.Core.Path.{_≡_};
 ghost use lib.ListN.{length};
-ghost use Rattle.calls.specs.Calls.{cubeOf, Leaves, cubeLeft, answerLeft, numberLeft};
+ghost use Rattle.calls.specs.Calls.{Leaves, cubeLeft, answerLeft, numberLeft};
 use cubie::CubeAnswer;
-use cubie::CubieCube;
 use cubie::inner::put_cube;
 use moves::Answer;
 use moves::Number;
 use moves::Verdict;
-use pieces::inner::copy_in;
-
-// A cube from its 40 bytes.
-pub fn cube_of(s: &[u8]) -> CubieCube
-    requires { ⌜ length (now s) ≡ 40 ⌝ }
-    ensures { λ r. ⌜ r ≡ cubeOf (now (s .entry)) ⌝ }
-{
-    let mut cp = [0u8; 8];
-    let mut co = [0u8; 8];
-    let mut ep = [0u8; 12];
-    let mut eo = [0u8; 12];
-    copy_in(&s[0..8], &mut cp, 0);
-    copy_in(&s[8..16], &mut co, 0);
-    copy_in(&s[16..28], &mut ep, 0);
-    copy_in(&s[28..40], &mut eo, 0);
-    CubieCube { cp, co, ep, eo }
-}
 
 // The number of an answer; its cube is written, unless it is refused.
 pub fn leave_cube(a: CubeAnswer, out: &mut [u8]) -> u8

@@ -3,6 +3,7 @@
 ghost use mathlib.Core.Path.{_≡_};
 ghost use Rattle.calls.specs.Calls.{Leaves, mulCall, moveCall, movesCall, solvedCall, solvableCall, countsCall, inverseMoveCall, ofTwoCall};
 ghost use Rattle.moves.specs.Moves.{isInverse, isSameLayer, isAvailable};
+use cubie::inner::cube_of;
 
 pub mod inner;
 
@@ -19,7 +20,7 @@ pub fn mul(a: &[u8], b: &[u8], out: &mut [u8]) -> u8
     if out.len() != 40 {
         return 10;
     }
-    inner::leave_cube(inner::cube_of(a).mul(inner::cube_of(b)), out)
+    inner::leave_cube(cube_of(a).mul(cube_of(b)), out)
 }
 
 // The cube after one move.
@@ -32,7 +33,7 @@ pub fn apply_move(cube: &[u8], m: u8, out: &mut [u8]) -> u8
     if out.len() != 40 {
         return 10;
     }
-    inner::leave_cube(inner::cube_of(cube).apply_move(m), out)
+    inner::leave_cube(cube_of(cube).apply_move(m), out)
 }
 
 // The cube after a list of moves, a byte each.
@@ -45,7 +46,7 @@ pub fn apply_moves(cube: &[u8], moves: &[u8], out: &mut [u8]) -> u8
     if out.len() != 40 {
         return 10;
     }
-    inner::leave_cube(inner::cube_of(cube).apply_moves(moves), out)
+    inner::leave_cube(cube_of(cube).apply_moves(moves), out)
 }
 
 // Whether a cube is solved: one byte, 1 or 0.
@@ -58,7 +59,7 @@ pub fn is_solved(cube: &[u8], out: &mut [u8]) -> u8
     if out.len() != 1 {
         return 10;
     }
-    inner::leave_answer(inner::cube_of(cube).is_solved(), out)
+    inner::leave_answer(cube_of(cube).is_solved(), out)
 }
 
 // Whether a cube is solvable: one byte, 1 or 0.
@@ -71,7 +72,7 @@ pub fn is_solvable(cube: &[u8], out: &mut [u8]) -> u8
     if out.len() != 1 {
         return 10;
     }
-    inner::leave_answer(inner::cube_of(cube).is_solvable(), out)
+    inner::leave_answer(cube_of(cube).is_solvable(), out)
 }
 
 // The four counts, a byte each: corner twists, edge flips, corner swaps, edge swaps.
@@ -84,7 +85,7 @@ pub fn counts(cube: &[u8], out: &mut [u8]) -> u8
     if out.len() != 4 {
         return 10;
     }
-    let c = inner::cube_of(cube);
+    let c = cube_of(cube);
     let refusal = cubie::inner::refusal(c);
     if refusal != 0 {
         return refusal;

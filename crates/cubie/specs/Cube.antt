@@ -2,7 +2,7 @@
 use mathlib.Core.Bool.{Bool, true, false, _&&_}
 use mathlib.Core.List.{List, [], _∷_, _++_}
 use Prim.Native.Nat.{ℕ, zero, suc, _/_, _%_}
-use lib.ListN.{getD}
+use lib.ListN.{getD, take, drop}
 use Rattle.base.specs.Lists.{pick, inRange, Sized, sameList}
 use Rattle.base.specs.Product.{compose, twisted}
 use Rattle.cubie.specs.declared.CubieCube.{CubieCube}
@@ -21,6 +21,10 @@ pub record InRange (c : CubieCube) : Type 0 where
 -- a cube as 40 bytes: cp 8, co 8, ep 12, eo 12
 abbrev pub bytesOf : CubieCube → List ℕ
 bytesOf c = ((c .cp ++ c .co) ++ c .ep) ++ c .eo
+
+-- and a cube from its 40 bytes
+abbrev pub cubeOf : List ℕ → CubieCube
+cubeOf s = record { cp = take 8 s; co = take 8 (drop 8 s); ep = take 12 (drop 16 s); eo = take 12 (drop 28 s) }
 
 -- `Mul`
 unfoldable pub product : CubieCube → CubieCube → CubieCube

@@ -4,7 +4,7 @@ ghost use Prim.Native.Nat.{_<_};
 ghost use lib.ListN.{length, getD};
 ghost use Rattle.base.specs.Lists.{Under};
 ghost use Rattle.cubie.specs.Answers.{refusalWith};
-ghost use Rattle.cubie.specs.Cube.{refusalOf, bytesOf, product, solvedCube, quarterTurns, moveOf, turn, applyMoves, isHome};
+ghost use Rattle.cubie.specs.Cube.{refusalOf, bytesOf, cubeOf, product, solvedCube, quarterTurns, moveOf, turn, applyMoves, isHome};
 ghost use Rattle.cubie.specs.Solvable.{cornerTwist, edgeTwist, cornerPerm, edgePerm, solvable};
 use crate::CubeAnswer;
 use crate::CubieCube;
@@ -71,6 +71,22 @@ pub fn put_cube(c: CubieCube, out: &mut [u8])
     copy_in(&ep, out, 16);
     let eo = c.eo;
     copy_in(&eo, out, 28);
+}
+
+// A cube from its 40 bytes.
+pub fn cube_of(s: &[u8]) -> CubieCube
+    requires { ⌜ length (now s) ≡ 40 ⌝ }
+    ensures { λ r. ⌜ r ≡ cubeOf (now (s .entry)) ⌝ }
+{
+    let mut cp = [0u8; 8];
+    let mut co = [0u8; 8];
+    let mut ep = [0u8; 12];
+    let mut eo = [0u8; 12];
+    copy_in(&s[0..8], &mut cp, 0);
+    copy_in(&s[8..16], &mut co, 0);
+    copy_in(&s[16..28], &mut ep, 0);
+    copy_in(&s[28..40], &mut eo, 0);
+    CubieCube { cp, co, ep, eo }
 }
 
 // The product, as `Mul` has it.

@@ -9,7 +9,8 @@ use Rattle.moves.specs.declared.Verdict.the-variants as verdict
 use Rattle.cubie.specs.declared.CubeAnswer.{CubeAnswer}
 use Rattle.facelet.specs.Picture.{pictureAnswer}
 use Rattle.facelet.specs.declared.FaceAnswer.{FaceAnswer}
-use Rattle.calls.specs.Calls.{Left, refuse, leave, cubeOf, cubeLeft, sized}
+use Rattle.cubie.specs.Cube.{cubeOf}
+use Rattle.calls.specs.Calls.{Left, refuse, leave, cubeLeft, sized}
 
 -- the number and the picture of each case of an answer
 abbrev pub facesLeft : Verdict → List ℕ → List ℕ → Left

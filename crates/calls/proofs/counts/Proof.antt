@@ -4,9 +4,8 @@ use native.Mathlib.Omega.{arith}
 use denote.Ref.{now}
 use lib.ListN.{length-set}
 use borrow.Author.Tests.{eq-eqb, ne-eqb}
-use Rattle.cubie.specs.Cube.{refusalOf}
+use Rattle.cubie.specs.Cube.{refusalOf, cubeOf}
 use Rattle.cubie.specs.Solvable.{cornerTwist, edgeTwist, cornerPerm, edgePerm}
-use Rattle.calls.specs.Calls.{cubeOf}
 use Rattle.calls.proofs.Sizes.{four-bytes}
 use borrow.Author.Needs.{needs}
 use Rattle.calls.proofs.counts.Statement.{statement}

@@ -1,4 +1,4 @@
--- `calls::inner::cube_of` meets its contract. Assumes nothing.
+-- `cubie::inner::cube_of` meets its contract. Assumes nothing.
 use mathlib.Core.Path.{_≡_, _∙_}
 use native.Mathlib.Omega.{arith}
 use denote.Ref.{now}
@@ -6,8 +6,8 @@ use lib.ListN.{length, take, drop, replicate, length-drop}
 use lib.Seq.{length-take-le}
 use Rattle.base.proofs.Steps.{paste-whole}
 use borrow.Author.Needs.{needs}
-use Rattle.calls.proofs.inner.cube_of.Statement.{statement}
-use Rattle.calls.proofs.inner.cube_of.Tie as tie
+use Rattle.cubie.proofs.inner.cube_of.Statement.{statement}
+use Rattle.cubie.proofs.inner.cube_of.Tie as tie
 
 sub-copy-in : tie.Need-sub-copy-in
 sub-copy-in c = search needs
