@@ -1,0 +1,3 @@
+pub mod Facts
+pub mod Path
+pub mod Steps

@@ -1,0 +1,41 @@
+-- `phase2::inner::phase2_state` meets its contract: the three numbers, each below its count. Assumes nothing.
+use mathlib.Core.Path.{_≡_, refl}
+use native.Mathlib.Omega.{arith}
+use lib.ListN.{length, take, drop, length-take, length-drop}
+use Rattle.index.proofs.Answers.{number-small}
+use borrow.Author.Needs.{needs}
+use Rattle.phase2.proofs.inner.phase2_state.Statement.{statement}
+use Rattle.phase2.proofs.inner.phase2_state.Tie as tie
+
+cp-to-index-requires : tie.Need-cp-to-index-requires
+cp-to-index-requires c κs = search needs
+
+ud-ep-to-index-requires : tie.Need-ud-ep-to-index-requires
+ud-ep-to-index-requires c κs = search needs
+
+e-ep-to-index-requires : tie.Need-e-ep-to-index-requires
+e-ep-to-index-requires c κs = search needs
+
+returns : tie.Need-returns
+returns c =
+    let cube = c .before .before .before .before .before .args .cube in
+    let cp = c .before .before .cp-to-index .ensures in
+    let ud = c .before .ud-ep-to-index .ensures in
+    let e = c .e-ep-to-index .ensures in
+    let l : length (cube .cp) ≡ 8 = search needs in
+    let n : length (cube .ep) ≡ 12 = search needs in (
+      (λ i. record { a = cp i; b = ud i; c = e i }),
+      (
+        refl,
+        record {
+          a = omega (arith, cp, number-small 8 (cube .cp) l);
+          b = omega (arith, ud, number-small 8 (take 8 (drop 4 (cube .ep))) (simp (length-take, length-drop) (omega (arith, n))));
+          c = omega (arith, e, number-small 4 (take 4 (cube .ep)) (simp length-take (omega (arith, n))));
+        },
+      ),
+    )
+
+pub phase2-state-spec : {M : Type 1} → statement M
+phase2-state-spec =
+    tie.close
+    (tie.spec cp-to-index-requires ud-ep-to-index-requires e-ep-to-index-requires returns)

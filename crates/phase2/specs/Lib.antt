@@ -1,0 +1,3 @@
+pub mod Paths
+pub mod Rules
+pub mod Second
