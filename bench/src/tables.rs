@@ -9,12 +9,12 @@ pub fn measure(rounds: usize) -> Vec<Row> {
     let mut tables = Tables::room();
     let (mut kewb, mut build, mut check) = (vec![], vec![], vec![]);
     for _ in 0..rounds {
-        kewb.push(timed(|| drop(black_box(DataTable::default()))));
-        build.push(timed(|| tables.build()));
-        check.push(timed(|| tables.check()));
+        kewb.push(1e3 * timed(|| drop(black_box(DataTable::default()))));
+        build.push(1e3 * timed(|| tables.build()));
+        check.push(1e3 * timed(|| tables.check()));
     }
     vec![
-        Row { what: "build of all ten tables", kewb: spread(kewb.clone()), product: spread(build), bar: 0.9 },
-        Row { what: "check of all ten, beside kewb's build", kewb: spread(kewb), product: spread(check), bar: 0.5 },
+        Row { what: "build of all ten tables, ms", kewb: spread(kewb.clone()), product: spread(build), bar: 0.9 },
+        Row { what: "check of all ten, beside kewb's build, ms", kewb: spread(kewb), product: spread(check), bar: 0.5 },
     ]
 }

@@ -1,6 +1,7 @@
 pub mod Budget
 pub mod Combo
 pub mod Digits
+pub mod Finds
 pub mod Mask
 pub mod Parity
 pub mod Perm

@@ -95,7 +95,7 @@ map-range-is f n xs l h =
     ext-getD 0 (map f (range 0 n)) xs (map-range-length f n ∙ sym l)
     (λ i k. let b : i < n = omega (arith, map-range-length f n) in map-range-at f n i b ∙ h i b)
 
-range-under : (m n k : ℕ) → m + n ≤ k → Under k (range m n)
+pub range-under : (m n k : ℕ) → m + n ≤ k → Under k (range m n)
 unfolding range
 range-under m zero k h = tt
 range-under m (suc n) k h = (omega arith, range-under (suc m) n k (omega arith))

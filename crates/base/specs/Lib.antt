@@ -1,5 +1,6 @@
 pub mod Combo
 pub mod Digits
+pub mod Finds
 pub mod Lists
 pub mod Parity
 pub mod Perm

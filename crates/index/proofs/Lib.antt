@@ -1,6 +1,5 @@
 pub mod Answers
 pub mod Combination
-pub mod Examples
 pub mod Fill
 pub mod Numbers
 pub mod Orientation

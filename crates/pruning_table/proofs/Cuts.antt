@@ -91,21 +91,21 @@ module _ (c : CubieCube) (r : InRange c) (s : solvable c ≡ true) where
   p : Parts c
   p = solvable-parts r s
 
-  co-small : coordinate co c < 2187
+  pub co-small : coordinate co c < 2187
   co-small =
       let z : total (λ x. x) (c .co) % 3 ≡ 0 = omega (arith, twists-sum (c .co) (r .co .small), p .twists) in
       co-keeps .bounded (c .co) (r .co, z)
 
-  eo-small : coordinate eo c < 2048
+  pub eo-small : coordinate eo c < 2048
   eo-small = eo-keeps .bounded (c .eo) (r .eo, p .flips)
 
-  e-combo-small : coordinate eCombo c < 495
+  pub e-combo-small : coordinate eCombo c < 495
   e-combo-small = e-combo-keeps .bounded (c .ep) (r .ep, four-low c r s)
 
-  cp-small : coordinate cp c < 40320
+  pub cp-small : coordinate cp c < 40320
   cp-small = cp-keeps .bounded (c .cp) (p .corners)
 
-  ud-ep-small : InPhase2 c → coordinate udEp c < 40320
+  pub ud-ep-small : InPhase2 c → coordinate udEp c < 40320
   ud-ep-small d =
       ud-ep-keeps .bounded (c .ep)
       (record {
@@ -115,7 +115,7 @@ module _ (c : CubieCube) (r : InRange c) (s : solvable c ≡ true) where
         is = sym (lowered-back (c .ep) (p .edges) (d .middle));
       })
 
-  e-ep-small : InPhase2 c → coordinate eEp c < 24
+  pub e-ep-small : InPhase2 c → coordinate eEp c < 24
   e-ep-small d = e-ep-keeps .bounded (c .ep) (r .ep, front (c .ep) (p .edges) (d .middle))
 
 -- ---- the four tables

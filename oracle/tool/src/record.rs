@@ -2,7 +2,7 @@
 use crate::coords::{Kind, KINDS};
 use crate::cubes::{raw, solved};
 use crate::readers::solved_picture;
-use crate::requests::{coords, cubie, stickers, text, Ask};
+use crate::requests::{coords, cubie, solve, stickers, text, Ask};
 use wire::Args;
 
 /// What is recorded together.
@@ -26,13 +26,16 @@ enum Lent {
     Number,
     /// A coordinate's places.
     Places,
+    /// Two rooms of 31 moves each; the word that comes back is recorded behind them.
+    Rooms,
 }
 
-pub const RECORDS: [Record; 4] = [
+pub const RECORDS: [Record; 5] = [
     Record { name: "cubie", sample: cubie::sample, first: 1, kinds: &CUBIE },
     Record { name: "facelet", sample: stickers::sample, first: 11, kinds: &FACELET },
     Record { name: "scramble", sample: text::sample, first: 14, kinds: &SCRAMBLE },
     Record { name: "index", sample: coords::sample, first: 16, kinds: &INDEX },
+    Record { name: "solver", sample: solve::sample, first: 18, kinds: &SOLVER },
 ];
 
 const CUBIE: [(&str, Lent); 10] = [
@@ -51,6 +54,10 @@ const FACELET: [(&str, Lent); 3] =
     [("read", Lent::Bytes(40)), ("strict", Lent::Bytes(40)), ("picture", Lent::Bytes(54))];
 const SCRAMBLE: [(&str, Lent); 2] = [("parse", Lent::Room), ("text", Lent::Room)];
 const INDEX: [(&str, Lent); 2] = [("index", Lent::Number), ("arrange", Lent::Places)];
+const SOLVER: [(&str, Lent); 1] = [("solve", Lent::Rooms)];
+
+/// Room for one list of moves.
+const LIST: usize = 31;
 
 /// What lent bytes hold before a call, and after a refusal.
 const UNTOUCHED: u8 = 0xEE;
@@ -77,6 +84,11 @@ impl Record {
         self.kinds().any(|(_, _, lent)| matches!(lent, Lent::Number | Lent::Places))
     }
 
+    /// Whether its calls are searches.
+    pub fn searches(&self) -> bool {
+        self.kinds().any(|(_, _, lent)| matches!(lent, Lent::Rooms))
+    }
+
     /// The line of a request and its answer; None where there is no such record.
     pub fn line(&self, request: &str, answer: &str) -> Option<String> {
         let (word, rest) = request.split_once(' ')?;
@@ -89,6 +101,7 @@ impl Record {
             Lent::Room => in_room(name, answer, room(name, &args)?)?,
             Lent::Number => exactly(4)?,
             Lent::Places => exactly(coordinate(&args)?.places().len())?,
+            Lent::Rooms => searched(answer)?,
         };
         Some(hex(kind, &a, &b, number, &out))
     }
@@ -113,6 +126,11 @@ fn misfits(kind: u8, name: &str, lent: Lent) -> Vec<String> {
         Lent::Room => vec![],
         Lent::Number => misfit_places().iter().map(|(a, places)| refused(a, places, 4)).collect(),
         Lent::Places => misfit_places().iter().map(|(a, places)| refused(a, &[0; 4], places.len())).collect(),
+        Lent::Rooms => {
+            let mut out = vec![UNTOUCHED; 2 * LIST];
+            out.extend(10u64.to_be_bytes());
+            vec![hex(kind, &[0; 39], &[0; 5], 10, &out)]
+        }
     }
 }
 
@@ -151,6 +169,10 @@ fn given(name: &str, args: &Args) -> Option<(Vec<u8>, Vec<u8>)> {
         "text" => (args.list(0)?, vec![]),
         "index" => (vec![coordinate(args)? as u8], args.list(1)?),
         "arrange" => (vec![coordinate(args)? as u8], args.number::<u32>(1)?.to_be_bytes().to_vec()),
+        "solve" => {
+            let budget = args.number::<u32>(2)?.to_be_bytes();
+            (args.list(0)?, [&[args.number::<u8>(1)?], &budget[..]].concat())
+        }
         _ => (args.list(0)?, args.list(1).unwrap_or_default()),
     })
 }
@@ -195,6 +217,31 @@ fn result(name: &str, answer: &str, lent: usize) -> Option<(u8, Vec<u8>)> {
         _ => said.split([' ', ',']).map(value).collect(),
     };
     Some((0, written?))
+}
+
+/// What a search says: its number, the two lists in their rooms, untouched but where it is solved, and the word that comes back: the
+/// number, the kind (0 solved, 1 none, 2 spent) and the lengths, a byte each from the lowest on, and the count in 32 bits.
+fn searched(answer: &str) -> Option<(u8, Vec<u8>)> {
+    let words: Vec<&str> = answer.split(' ').collect();
+    let number = |i: usize| words.get(i)?.parse::<u64>().ok();
+    let untouched = || vec![UNTOUCHED; 2 * LIST];
+    let (refusal, upper, rooms) = match words[..2] {
+        ["refused", n] => (n.parse().ok()?, 0, untouched()),
+        ["ok", "solved"] => {
+            let lists = [Args::of(words[3]).list(0)?, Args::of(words[4]).list(0)?];
+            let lengths = (lists[0].len() as u64) << 16 | (lists[1].len() as u64) << 24;
+            let padded = lists.map(|mut list: Vec<u8>| {
+                list.resize(LIST, 0);
+                list
+            });
+            (0, lengths | number(2)? << 32, padded.concat())
+        }
+        ["ok", "none"] => (0, 1 << 8 | number(2)? << 32, untouched()),
+        ["ok", "spent"] => (0, 2 << 8 | number(2)? << 32, untouched()),
+        _ => return None,
+    };
+    let word = u64::from(refusal) | upper;
+    Some((refusal, [rooms, word.to_be_bytes().to_vec()].concat()))
 }
 
 /// The same in a lent room, then the count in two bytes, untouched where refused.

@@ -12,6 +12,9 @@ const COUNT: &str = "\
 const COORDINATES: &str = "\
 # A is the coordinate: 0 co, 1 eo, 2 e_combo, 3 cp, 4 ud_ep, 5 e_ep, 6 ep; 7 is none, so that no number of places fits it.
 # B and OUT are its places and its number, or the other way round; a number is four bytes, the highest first.";
+const SEARCHES: &str = "\
+# A is the cube, B the limit and the budget, a byte and four, the highest first. OUT is two rooms of 31 bytes and the word that came back,
+# eight bytes, the highest first: the count in four, the lengths of the second and the first list, 0 solved, 1 none or 2 spent, and NUMBER.";
 const MISFITS: &str = "\
 # Lent slices of another length than is asked for: 10, by the paper.";
 
@@ -28,6 +31,9 @@ fn main() {
     }
     if record.coordinates() {
         println!("{COORDINATES}");
+    }
+    if record.searches() {
+        println!("{SEARCHES}");
     }
     let mut state = State::default();
     (record.sample)(seed, &mut |request| {

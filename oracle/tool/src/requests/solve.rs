@@ -140,3 +140,24 @@ fn met(g: &mut Rng, c: CubieCube, second: bool, ask: Ask) {
         poke(t, number_of(KINDS[t], &near) * moves.len() as u64 + column, value, ask);
     }
 }
+
+/// The sample to record.
+pub fn sample(seed: u64, ask: Ask) {
+    let (g, tables) = (&mut Rng::stream(seed, 10), &DataTable::default());
+    ask("# The paper's known examples: the solved cube, and the cube after U.".into());
+    let after_u = solved().apply_move(DECLARED[0]);
+    for (limit, budget) in [(0, 1), (0, 0), (1, 2), (1, 1), (31, 100), (32, 100), (255, 0)] {
+        solve(&solved(), limit, budget, ask);
+    }
+    [(1, LARGE), (2, LARGE), (2, 3), (2, 2)].iter().for_each(|&(limit, budget)| solve(&after_u, limit, budget, ask));
+    ask("# Cubes near the solved one, at every limit in turn, with budgets 0, 1, those round the count, and a large one.".into());
+    (0..30).for_each(|_| budgets(g, tables, ask));
+    ask("# Random cubes at limits 22 to 25.".into());
+    (0..40).for_each(|i| solve(&random_cube(g), 22 + i % 4, LARGE, ask));
+    ask("# Random cubes at other limits, within 200,000 entries.".into());
+    (0..32).filter(|limit| !(22..26).contains(limit)).for_each(|limit| solve(&random_cube(g), limit, 200_000, ask));
+    ask("# Cubes out of range and cubes that aren't solvable.".into());
+    for (_, make) in CUBES {
+        (0..4).for_each(|_| ask(format!("solve {} {} 1000", join(&make(g)), g.pick(&[0, 5, 31, 32]))));
+    }
+}

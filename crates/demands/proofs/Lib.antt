@@ -1,0 +1,11 @@
+pub mod Agreement
+pub mod AnyTables
+pub mod Canonical
+pub mod Complete
+pub mod Demands
+pub mod Ends
+pub mod Examples
+pub mod Layers
+pub mod Lengths
+pub mod Solved
+pub mod Truth

@@ -1,0 +1,3 @@
+pub mod Answered
+pub mod Cubes
+pub mod Words
