@@ -1,6 +1,6 @@
 // The C interface, for the trainer's firmware and for Rust: each function returns the paper's number, 0 for none, and writes into lent
 // bytes, which a refusal leaves as they were. A lent slice of another length than is said is refused with 10, before all else.
-// Each is the function of the same name in `calls`, `texts`, `coordinate` or `table_calls`.
+// Each is the function of the same name in `calls`, `texts`, `coordinate`, `table_calls` or `search_calls`.
 ghost use mathlib.Core.Path.{_≡_};
 ghost use Rattle.calls.specs.Calls.{Leaves, mulCall, moveCall, movesCall, solvedCall, solvableCall, countsCall, inverseMoveCall, ofTwoCall};
 ghost use Rattle.coordinate.specs.Calls.{indexNumber, indexLeft, arrangeNumber, arrangeLeft};
@@ -12,6 +12,7 @@ ghost use Rattle.texts.specs.Judge.{judgeNumber, judgeRoom, judgeCount};
 ghost use Rattle.texts.specs.Stickers.{readCall, pictureCall};
 ghost use Rattle.texts.specs.Text.{parsedNumber, parsedCount, writtenNumber, writtenCount};
 ghost use Rattle.table_calls.specs.Calls.{tableNumber, tableLeft, blockNumber, blockLeft, PruneCall, PairsCall, PrunesCall, CheckCall};
+ghost use Rattle.search_calls.specs.Calls.{solveNumber, firstLeft, secondLeft};
 
 // The product of two cubes of 40 bytes each: cp 8, co 8, ep 12, eo 12.
 #[no_mangle]
@@ -223,4 +224,23 @@ pub extern "C" fn tsunghawi_check_tables(moves: &[u16], prunes: &[u8]) -> u64
     ensures { λ r. ⌜ CheckCall (now (moves .entry)) (now (prunes .entry)) r ⌝ }
 {
     table_calls::check_tables(moves, prunes)
+}
+
+// Turns that solve the cube of 40 bytes, in two rooms of 31 bytes each, which only a solved answer writes. Returned is the paper's number in
+// the low byte; then 0 solved, 1 none or 2 spent; then the lengths of the two lists, a byte each; and above them, in 32 bits, the entries made.
+#[no_mangle]
+pub extern "C" fn tsunghawi_solve(
+    cube: &[u8],
+    limit: u8,
+    budget: u32,
+    moves: &[u16],
+    prunes: &[u8],
+    one: &mut [u8],
+    two: &mut [u8],
+) -> u64
+    ensures { λ r. ⌜ r ≡ solveNumber (now (cube .entry)) limit budget (now (moves .entry)) (now (prunes .entry)) (now (one .entry)) (now (two .entry)) ⌝ }
+    ensures { λ r. ⌜ now (one .exit) ≡ firstLeft (now (cube .entry)) limit budget (now (moves .entry)) (now (prunes .entry)) (now (one .entry)) (now (two .entry)) ⌝ }
+    ensures { λ r. ⌜ now (two .exit) ≡ secondLeft (now (cube .entry)) limit budget (now (moves .entry)) (now (prunes .entry)) (now (one .entry)) (now (two .entry)) ⌝ }
+{
+    search_calls::solve(cube, limit, budget, moves, prunes, one, two)
 }
