@@ -1,5 +1,5 @@
-// Replays recorded answers of kewb about cubes, moves, stickers, move text and coordinates, and says how many agree. Standard input holds
-// a case a line (oracle/README.md).
+// Replays recorded answers of kewb about cubes, moves, stickers, move text, coordinates and the search, and says how many agree. Standard
+// input holds a case a line (oracle/README.md).
 ghost use Prim.Native.Nat.{_≤_};
 use replay::part_at;
 use replay::unhex;
@@ -45,7 +45,16 @@ fn call_with_move(kind: u8, a: &[u8], b: &[u8], out: &mut [u8]) -> u8 {
 }
 
 // Runs a case, and says whether its number and its bytes are those that were recorded.
-fn same_case(kind: u8, a: &[u8], b: &[u8], number: u8, want: &[u8], out: &mut [u8]) -> bool {
+fn same_case(
+    kind: u8,
+    a: &[u8],
+    b: &[u8],
+    number: u8,
+    want: &[u8],
+    moves: &[u16],
+    prunes: &[u8],
+    out: &mut [u8],
+) -> bool {
     if kind == 14 {
         return same_text(kind, a, number, want, out);
     }
@@ -57,6 +66,9 @@ fn same_case(kind: u8, a: &[u8], b: &[u8], number: u8, want: &[u8], out: &mut [u
     }
     if kind == 17 {
         return same_arrangement(a, b, number, want, out);
+    }
+    if kind == 18 {
+        return same_solve(a, b, number, want, moves, prunes);
     }
     if call(kind, a, b, out) != number {
         return false;
@@ -135,8 +147,49 @@ fn same_arrangement(a: &[u8], b: &[u8], number: u8, want: &[u8], out: &mut [u8])
     pieces::inner::same_bytes(out, want)
 }
 
+// A room for the turns of a phase, which holds 0xee before the call.
+fn turns_room() -> [u8; 31] {
+    [0xee; 31]
+}
+
+// The number of eight bytes, the highest first, by its two halves.
+fn word_of(high: u32, low: u32) -> u64 {
+    (high as u64) * 4294967296 + low as u64
+}
+
+// Whether both rooms and the word that came back are those that were recorded.
+fn same_found(one: &[u8], two: &[u8], word: u64, want: &[u8]) -> bool {
+    if want.len() != 70 {
+        return false;
+    }
+    let high = number_of(want[62], want[63], want[64], want[65]);
+    let low = number_of(want[66], want[67], want[68], want[69]);
+    if word != word_of(high, low) {
+        return false;
+    }
+    if !pieces::inner::same_bytes(one, &want[..31]) {
+        return false;
+    }
+    pieces::inner::same_bytes(two, &want[31..62])
+}
+
+// A case of the search: the limit and the budget are in five bytes, and the number is the low byte of the word that comes back.
+fn same_solve(a: &[u8], b: &[u8], number: u8, want: &[u8], moves: &[u16], prunes: &[u8]) -> bool {
+    if b.len() != 5 {
+        return false;
+    }
+    let budget = number_of(b[1], b[2], b[3], b[4]);
+    let mut one = turns_room();
+    let mut two = turns_room();
+    let word = unit::tsunghawi_solve(a, b[0], budget, moves, prunes, &mut one, &mut two);
+    if word % 256 != number as u64 {
+        return false;
+    }
+    same_found(&one, &two, word, want)
+}
+
 // Whether the case of a line agrees: a kind, two parts, a number and a part.
-fn agrees(line: &[u8], room: &mut [u8]) -> bool {
+fn agrees(line: &[u8], moves: &[u16], prunes: &[u8], room: &mut [u8]) -> bool {
     let a = part_at(line, 1);
     let a_start = a.start;
     let a_end = a.end;
@@ -159,6 +212,8 @@ fn agrees(line: &[u8], room: &mut [u8]) -> bool {
         &line[b_start..b_end],
         line[b_end],
         &line[start..end],
+        moves,
+        prunes,
         &mut room[..size],
     )
 }
@@ -172,15 +227,15 @@ fn line_room() -> [u8; 256] {
     [0; 256]
 }
 
-fn line_agrees(text: &[u8]) -> bool {
+fn line_agrees(text: &[u8], moves: &[u16], prunes: &[u8]) -> bool {
     let mut line = line_room();
     let n = unhex(text, &mut line);
     let mut room = lent();
-    agrees(&line[..n], &mut room)
+    agrees(&line[..n], moves, prunes, &mut room)
 }
 
 // 0 for a comment, 1 for a case that agrees, 2 for one that differs.
-fn verdict(text: &[u8]) -> u8
+fn verdict(text: &[u8], moves: &[u16], prunes: &[u8]) -> u8
     ensures { λ r. ⌜ r ≤ 2 ⌝ }
 {
     if 0 < text.len() {
@@ -188,7 +243,11 @@ fn verdict(text: &[u8]) -> u8
             return 0;
         }
     }
-    if line_agrees(text) { 1 } else { 2 }
+    if line_agrees(text, moves, prunes) {
+        1
+    } else {
+        2
+    }
 }
 
 fn tell_differs(number: u64, text: &[u8]) {
@@ -206,12 +265,12 @@ fn tell_agree(count: u64) {
 }
 
 // Stops at the first case that differs, and names it by its number and its line.
-fn replay_all(text: &[u8]) {
+fn replay_all(text: &[u8], moves: &[u16], prunes: &[u8]) {
     let mut agreed: u64 = 0;
     let mut at = 0;
     while at < text.len() {
         let end = bytes::scan::find(text, at, text.len(), b'\n');
-        let found = verdict(&text[at..end]);
+        let found = verdict(&text[at..end], moves, prunes);
         if found == 2 {
             tell_differs(agreed + 1, &text[at..end]);
             return;
@@ -222,13 +281,50 @@ fn replay_all(text: &[u8]) {
     tell_agree(agreed);
 }
 
+// Says with which of the paper's numbers the tables were refused.
+fn tell_refused(number: u64) {
+    io::write_all(1, b"tables refused: ");
+    io::print_decimal(1, number);
+    io::write_all(1, b"\n");
+}
+
+// Builds both blocks of tables, for the search; the paper's number, 0 for none.
+fn build(moves: &mut [u16], prunes: &mut [u8]) -> u8 {
+    let six = unit::tsunghawi_get_move_tables(moves);
+    if six != 0 {
+        return six;
+    }
+    unit::tsunghawi_get_prune_tables(moves, prunes)
+}
+
+// Room for the block of move tables, and for that of pruning tables.
+fn moves_room() -> [u16; 891780] {
+    [0; 891780]
+}
+
+fn prunes_room() -> [u8; 4031685] {
+    [0; 4031685]
+}
+
 // Room for the recorded text.
-fn room() -> [u8; 500000] {
-    [0; 500000]
+fn room() -> [u8; 480000] {
+    [0; 480000]
+}
+
+// Reads the recorded text and replays it.
+fn replay_input(moves: &[u16], prunes: &[u8]) {
+    let mut text = room();
+    let n = io::read_full(0, &mut text);
+    replay_all(&text[..n], moves, prunes);
 }
 
 fn main() {
-    let mut text = room();
-    let n = io::read_full(0, &mut text);
-    replay_all(&text[..n]);
+    let mut moves = moves_room();
+    let mut prunes = prunes_room();
+    let refused = build(&mut moves, &mut prunes);
+    if refused != 0 {
+        tell_refused(refused as u64);
+        return;
+    }
+    replay_input(&moves, &prunes);
 }

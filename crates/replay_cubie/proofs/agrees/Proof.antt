@@ -65,7 +65,7 @@ slice-relend-prefix-same-case : tie.Need-slice-relend-prefix-same-case
 slice-relend-prefix-same-case c = search needs
 
 slice-aggregate-same-case : tie.Need-slice-aggregate-same-case
-slice-aggregate-same-case c = sym (length-take-le (c .before .before .before .before .before .before .before .part-at3 .result .end - c .before .before .before .before .before .before .before .part-at3 .result .start) (now (c .before .before .before .before .before .before .before .before .before .before .before .before .before .args .room)) (c .before .before .before .before .before .before .if2 .left))
+slice-aggregate-same-case c = sym (length-take-le (c .before .before .before .before .before .before .before .part-at3 .result .end - c .before .before .before .before .before .before .before .part-at3 .result .start) (now (c .before .before .before .before .before .before .before .before .before .before .before .before .before .before .before .args .room)) (c .before .before .before .before .before .before .if2 .left))
 
 same-case-requires : tie.Need-same-case-requires
 same-case-requires c κs = search needs

@@ -7,10 +7,10 @@ use Rattle.replay_cubie.proofs.replay_all.Statement.{statement}
 use Rattle.replay_cubie.proofs.replay_all.Tie as tie
 
 abbrev Inv-loop : tie.InvT-loop
-Inv-loop text agreed₀ at₀ agreed at = (agreed ≤ at) × (at ≤ length text + 1)
+Inv-loop text moves prunes agreed₀ at₀ agreed at = (agreed ≤ at) × (at ≤ length text + 1)
 
 abbrev μ-loop : tie.MeasureT-loop
-μ-loop text agreed₀ at₀ agreed at = length text + 1 - at
+μ-loop text moves prunes agreed₀ at₀ agreed at = length text + 1 - at
 
 loop-holds : tie.Need-loop-holds Inv-loop μ-loop
 loop-holds c = omega arith
