@@ -1,5 +1,5 @@
 // The C interface, for the trainer's firmware and for Rust: each function returns the paper's number, 0 for none, and writes into lent
-// bytes, which a refusal leaves as they were. A lent slice of another length than is said is refused with 10, before all else.
+// bytes, which a refusal leaves as they were. A lent slice of another length than is said is refused with 10, before all else but a search's limit.
 // Each is the function of the same name in `calls`, `texts`, `coordinate`, `table_calls` or `search_calls`.
 ghost use mathlib.Core.Path.{_≡_};
 ghost use Rattle.calls.specs.Calls.{Leaves, mulCall, moveCall, movesCall, solvedCall, solvableCall, countsCall, inverseMoveCall, ofTwoCall};
