@@ -7,7 +7,7 @@ ghost use Rattle.base.specs.Search.{enter, walkFrom};
 ghost use Rattle.cubie.specs.Cube.{refusalOf, cubeOf, applyMoves};
 ghost use Rattle.cubie.specs.Solvable.{solvable};
 ghost use Rattle.pruning_table.specs.Check.{Blocks};
-ghost use Rattle.phase2.specs.Rules.{Below, phase1, phase2, at, endsOf, cutOf, goOf, belowOf};
+ghost use Rattle.phase2.specs.Rules.{Below, phase1, phase2, at, endsOf, cutOf, cutAtOnce, goOf, belowOf};
 ghost use Rattle.phase2.specs.Paths.{Holds};
 ghost use Rattle.phase2.specs.Second.{turns2, fars2, of2, coords2};
 ghost use Rattle.phase1.specs.First.{turns1, fars1, of1, coords1, turned1, fullOf, finish1, search1, Gives1};
@@ -70,6 +70,21 @@ fn prune(prunes: &[u8], x: Phase1State, d: usize) -> bool
     let p = prunes[(x.co.0 as usize) * 495 + e] as usize;
     let q = prunes[EO_E_AT + ((x.eo.0 as usize) * 495 + e)] as usize;
     d < larger(p, q)
+}
+
+// Whether an entry into x is paid for and cut, so that no more comes of it: a call is spared.
+fn cut_at_once(prunes: &[u8], x: Phase1State, d: usize, left: u32) -> bool
+    requires { ⌜ length (now prunes) ≡ 4031685 ⌝ }
+    requires { ⌜ Below phase1 (of1 x) ⌝ }
+    ensures { λ r. ⌜ r ≡ cutAtOnce phase1 (fars1 (now (prunes .entry))) (of1 x) d left ⌝ }
+{
+    if left == 0 {
+        return false;
+    }
+    if d == 0 {
+        return false;
+    }
+    prune(prunes, x, d)
 }
 
 // The position after m, the move of column j, by the three move tables.
@@ -221,6 +236,21 @@ fn walk_phase1(
     match step {
         Turned::Refused => return 12884901888 + (left as u64),
         Turned::To(y) => {
+            if cut_at_once(*prunes, y, d, left) {
+                return walk_phase1(
+                    moves,
+                    prunes,
+                    cube,
+                    limit,
+                    x,
+                    n,
+                    one,
+                    two,
+                    d,
+                    j + 1,
+                    left - 1,
+                );
+            }
             one[n] = m;
             let r = solve_phase1(moves, prunes, cube, limit, y, n + 1, one, two, d, left);
             if 4294967296 <= r {

@@ -54,7 +54,7 @@ go2-is m x j h l = go-is phase2 3 4 5 m x j _ _ _ (omega (arith, h .a)) (omega (
 
 -- ---- turns
 
-and-false : (p : Bool) → (p && false) ≡ false
+pub and-false : (p : Bool) → (p && false) ≡ false
 and-false true = refl
 and-false false = refl
 

@@ -1,19 +1,22 @@
 -- The steps of both phases' search, in the terms of the code: one fact for each way that the code goes. Assumes nothing.
 use Prim.Native.Nat.{ℕ, zero, suc, _+_, _-_, _<_, _≤_}
 use mathlib.Core.Path.{_≡_, refl, sym, ap, _∙_}
-use mathlib.Core.Bool.{Bool, true, false}
+use mathlib.Core.Bool.{Bool, true, false, _&&_, false≢true}
 use mathlib.Core.List.{List, [], _∷_, _++_}
-use native.Mathlib.Nat.{le-refl}
+use native.Mathlib.Nat.{le-refl, le-of-eq}
 use native.Mathlib.Numerals.{sub-one}
 use native.Mathlib.Omega.{arith}
+use lib.Dec.{ltb}
 use lib.ListN.{take, set}
+use borrow.Author.Tests.{lt-ltb, le-ltb, ltb-true}
 use Rattle.base.specs.Search.{Res, still, done, Rules, enter, walkFrom, leftOf}
 use Rattle.base.proofs.Search.{walk-skip, walk-refuse, walk-open, walk-done, enter-stop, enter-finish, enter-leave, enter-cut, enter-walk}
 use Rattle.base.proofs.Budget.{enter-spends}
 use Rattle.moves.specs.Moves.{isAvailable}
-use Rattle.phase2.specs.Rules.{Shape, Turns, Fars, Coords, At, at, Ans, spent, refused, belowOf, goOf, endsOf, cutOf, moved, nextOf, payOf, rules}
+use Rattle.phase2.specs.Rules.{Shape, Turns, Fars, Coords, At, at, Ans, spent, refused, belowOf, goOf, endsOf, cutOf, cutAtOnce, moved, nextOf, payOf, rules}
 use Rattle.phase2.specs.Paths.{Holds}
 use Rattle.phase2.specs.Second.{finish2, rules2}
+use Rattle.phase2.proofs.Facts.{and-false}
 use Rattle.phase2.proofs.Path.{take-more}
 
 pay-none : {L : Type 0} (s : ℕ) → s ≡ 0 → payOf {L = L} s ≡ done spent 0
@@ -24,6 +27,36 @@ pay-one : {L : Type 0} (s : ℕ) → (s ≡ 0 → ⊥) → payOf {L = L} s ≡ s
 unfolding payOf
 pay-one zero z = absurd (z refl)
 pay-one (suc s) z = ap still (sym (sub-one (suc s)))
+
+-- the three ways of an entry that is cut at once, or isn't
+module _ (sh : Shape) (f : Fars) (x : Coords) (d s : ℕ) where
+  pub unpaid : s ≡ 0 → cutAtOnce sh f x d s ≡ false
+  unfolding cutAtOnce
+  unpaid z = ap (λ (b : Bool). b && (ltb 0 d && cutOf sh f x d)) (le-ltb 0 s (le-of-eq z))
+
+  pub no-depth : d ≡ 0 → cutAtOnce sh f x d s ≡ false
+  unfolding cutAtOnce
+  no-depth z = ap (λ (b : Bool). ltb 0 s && (b && cutOf sh f x d)) (le-ltb 0 d (le-of-eq z)) ∙ and-false (ltb 0 s)
+
+  pub paid : (s ≡ 0 → ⊥) → (d ≡ 0 → ⊥) → cutAtOnce sh f x d s ≡ cutOf sh f x d
+  unfolding cutAtOnce
+  paid p q = λ i. lt-ltb 0 s (pos p) i && (lt-ltb 0 d (pos q) i && cutOf sh f x d)
+    where
+      pos : {n : ℕ} → (n ≡ 0 → ⊥) → 0 < n
+      pos h = omega (arith, h)
+
+  cut-needs : cutAtOnce sh f x d s ≡ true → (0 < s) × (0 < d) × (cutOf sh f x d ≡ true)
+  unfolding cutAtOnce
+  cut-needs e = by (ltb 0 s) (ltb 0 d) (cutOf sh f x d) refl refl refl e
+    where
+      by : (p q r : Bool) → ltb 0 s ≡ p → ltb 0 d ≡ q → cutOf sh f x d ≡ r → (p && (q && r)) ≡ true → (0 < s) × (0 < d) × (cutOf sh f x d ≡ true)
+      by true true true a b c e = (ltb-true 0 s a, ltb-true 0 d b, c)
+      by true true false a b c e = absurd (false≢true e)
+      by true false r a b c e = absurd (false≢true e)
+      by false q r a b c e = absurd (false≢true e)
+
+  pub cut-paid : cutAtOnce sh f x d s ≡ true → 0 < s
+  cut-paid e = cut-needs e .0
 
 module _ {L : Type 0} (sh : Shape) (t : Turns) (f : Fars) (finish : At → ℕ → Res (Ans L) ℕ) where
   module _ (x : At) (d s : ℕ) where
@@ -47,6 +80,12 @@ module _ {L : Type 0} (sh : Shape) (t : Turns) (f : Fars) (finish : At → ℕ �
       pub walks : (d ≡ 0 → ⊥) → cutOf sh f (x .at) d ≡ false → enter (rules sh t f finish) d x s ≡ walkFrom (rules sh t f finish) (sh .w) (d - 1) x 0 (s - 1)
       unfolding rules
       walks z e = enter-walk (rules sh t f finish) x s (pay-one s p) d (sh .w) z e refl
+
+  -- an entry that is cut at once
+  pub cuts-at-once : (x : At) (d s : ℕ) → cutAtOnce sh f (x .at) d s ≡ true → enter (rules sh t f finish) d x s ≡ still (s - 1)
+  cuts-at-once x d s e =
+      let all = cut-needs sh f (x .at) d s e in
+      cuts x d s (λ z. omega (arith, all .0, z)) (λ z. omega (arith, all .1, z)) (all .2)
 
   -- k is the move of column m
   module _ (x : At) (d m s : ℕ) (h : m < sh .w) {k : ℕ} (is : k ≡ sh .name m) where

@@ -73,6 +73,10 @@ endsOf x = eqb (x .a) 0 && (eqb (x .b) 0 && eqb (x .c) 0)
 unfoldable pub cutOf : Shape → Fars → Coords → ℕ → Bool
 cutOf sh f x d = ltb d (max (getD (f .pa) (x .a * sh .nc + x .c) 0) (getD (f .pb) (x .b * sh .nc + x .c) 0))
 
+-- an entry with d moves to go that can be paid for out of s, is no end and is left at once
+unfoldable pub cutAtOnce : Shape → Fars → Coords → ℕ → ℕ → Bool
+cutAtOnce sh f x d s = ltb 0 s && (ltb 0 d && cutOf sh f x d)
+
 -- "a move's three entries are read": what the move tables hold for column j
 unfoldable pub goOf : Shape → Turns → Coords → ℕ → Coords
 goOf sh t x j =

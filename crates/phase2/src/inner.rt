@@ -4,7 +4,7 @@ ghost use Prim.Native.Nat.{_+_, _*_, _≤_, _<_, max};
 ghost use lib.ListN.{length, take};
 ghost use Rattle.base.specs.Search.{enter};
 ghost use Rattle.pruning_table.specs.Check.{Blocks};
-ghost use Rattle.phase2.specs.Rules.{Below, phase2, at, endsOf, cutOf, goOf, belowOf};
+ghost use Rattle.phase2.specs.Rules.{Below, phase2, at, endsOf, cutOf, cutAtOnce, goOf, belowOf};
 ghost use Rattle.phase2.specs.Paths.{Holds};
 ghost use Rattle.phase2.specs.Second.{turns2, fars2, of2, coords2, turned2, rules2, Gives2};
 use crate::Phase2State;
@@ -72,6 +72,21 @@ fn prune(prunes: &[u8], x: Phase2State, d: usize) -> bool
     d < larger(p, q)
 }
 
+// Whether an entry into x is paid for and cut, so that no more comes of it: a call is spared.
+fn cut_at_once(prunes: &[u8], x: Phase2State, d: usize, left: u32) -> bool
+    requires { ⌜ length (now prunes) ≡ 4031685 ⌝ }
+    requires { ⌜ Below phase2 (of2 x) ⌝ }
+    ensures { λ r. ⌜ r ≡ cutAtOnce phase2 (fars2 (now (prunes .entry))) (of2 x) d left ⌝ }
+{
+    if left == 0 {
+        return false;
+    }
+    if d == 0 {
+        return false;
+    }
+    prune(prunes, x, d)
+}
+
 // The position after m, the move of column j, by the three move tables.
 fn next(moves: &[u16], x: Phase2State, j: usize, m: u8) -> Turned
     requires { ⌜ length (now moves) ≡ 891780 ⌝ }
@@ -135,13 +150,17 @@ pub fn solve_phase2(
             match step {
                 Turned::Refused => return 12884901888 + (rest as u64),
                 Turned::To(y) => {
-                    path[n] = m;
-                    let r = solve_phase2(moves, prunes, y, n + 1, path, d - 1, rest);
-                    if 4294967296 <= r {
-                        return r;
+                    if cut_at_once(*prunes, y, d - 1, rest) {
+                        rest -= 1;
+                    } else {
+                        path[n] = m;
+                        let r = solve_phase2(moves, prunes, y, n + 1, path, d - 1, rest);
+                        if 4294967296 <= r {
+                            return r;
+                        }
+                        path[n] = 0;
+                        rest = r as u32;
                     }
-                    path[n] = 0;
-                    rest = r as u32;
                 }
             }
         }
