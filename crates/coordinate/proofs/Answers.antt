@@ -11,7 +11,7 @@ use Rattle.base.specs.Lists.{pick}
 use Rattle.moves.specs.declared.Verdict.the-variants as verdict
 use Rattle.index.specs.Answers.{coAnswer, eoAnswer, eComboAnswer, cpAnswer, udEpAnswer, eEpAnswer, epAnswer}
 use Rattle.index.specs.Answers.{corners, edges, cornersRefused, edgesRefused}
-use Rattle.index.specs.Kinds.{Kind, co, eo, eCombo, cp, udEp, eEp, ep}
+use Rattle.numbering.specs.Kinds.{Kind, co, eo, eCombo, cp, udEp, eEp, ep}
 use Rattle.index.specs.declared.CoIndex.{CoIndex}
 use Rattle.index.specs.declared.CoIndex.the-variants as coIndex
 use Rattle.index.specs.declared.EoIndex.{EoIndex}

@@ -9,8 +9,8 @@ use Rattle.cubie.specs.declared.CubieCube.{CubieCube}
 use Rattle.facelet.specs.Picture.{picture}
 use Rattle.facelet.specs.Reader.{plainRefusal, strictRefusal, readPlain, readStrict}
 use Rattle.facelet.specs.Stickers.{solvedFace}
-use Rattle.index.specs.Coordinates.{coOf, eoOf, cpOf}
-use Rattle.index.specs.Kinds.{co, eo, eCombo, cp, udEp, eEp, ep, coordinate}
+use Rattle.numbering.specs.Coordinates.{coOf, eoOf, cpOf}
+use Rattle.numbering.specs.Kinds.{co, eo, eCombo, cp, udEp, eEp, ep, coordinate}
 
 pub record Example : Type 0 where
   pub asked : List ℕ

@@ -1,14 +1,12 @@
--- What the tests of the public functions say of the definitions, and the bound of a number. Assumes nothing.
-use mathlib.Core.Path.{_≡_, sym, _∙_, subst}
+-- What the tests of the public functions say of the definitions. Assumes nothing.
+use mathlib.Core.Path.{_≡_, sym, _∙_}
 use mathlib.Core.Bool.{Bool, true, false, not}
 use mathlib.Core.List.{List}
-use Prim.Native.Nat.{ℕ, _≤_, _<_}
+use Prim.Native.Nat.{ℕ, _≤_}
 use native.Mathlib.Omega.{arith}
 use lib.ListN.{length, take, drop, length-take}
 use borrow.Author.Tests.{not-true, not-false}
 use Rattle.base.specs.Lists.{Under, inRange}
-use Rattle.base.specs.Perm.{fact, number}
-use Rattle.base.proofs.Perm.{number-lt}
 use Rattle.base.proofs.Tests.{inRange-under, under-more, under-take, under-drop}
 
 -- a: what the code found, b: the test of the definition
@@ -24,7 +22,3 @@ pub few-small : (at count : ℕ) (xs : List ℕ) → count ≤ 32 → inRange 12
     → (length (take count (drop at xs)) ≤ 32) × Under 32 (take count (drop at xs))
 few-small at count xs h e =
     (simp length-take (omega arith), under-more (omega arith) (take count (drop at xs)) (under-take 12 count (drop at xs) (under-drop 12 at xs (inRange-under 12 xs e))))
-
--- n places have fewer than n! numbers
-pub number-small : (n : ℕ) (xs : List ℕ) → length xs ≡ n → number xs < fact n
-number-small n xs l = subst (λ (k : ℕ). number xs < fact k) l (number-lt xs)

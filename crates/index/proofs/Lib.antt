@@ -1,7 +1,1 @@
 pub mod Answers
-pub mod Combination
-pub mod Fill
-pub mod Numbers
-pub mod Orientation
-pub mod Phases
-pub mod Survives

@@ -5,8 +5,8 @@ use lib.Dec.{ltb, eqb}
 use lib.ListN.{replicate}
 use Rattle.base.specs.Lists.{pick}
 use Rattle.moves.specs.declared.Verdict.the-variants as verdict
-use Rattle.index.specs.Coordinates.{coRefusal, eoRefusal, eComboRefusal, cpRefusal, udEpRefusal, eEpRefusal, epRefusal}
-use Rattle.index.specs.Coordinates.{coNumber, eoNumber, eComboNumber, cpNumber, udEpNumber, eEpNumber, epNumber}
+use Rattle.numbering.specs.Coordinates.{coRefusal, eoRefusal, eComboRefusal, cpRefusal, udEpRefusal, eEpRefusal, epRefusal}
+use Rattle.numbering.specs.Coordinates.{coNumber, eoNumber, eComboNumber, cpNumber, udEpNumber, eEpNumber, epNumber}
 use Rattle.index.specs.declared.CoIndex.{CoIndex}
 use Rattle.index.specs.declared.CoIndex.the-variants as co
 use Rattle.index.specs.declared.EoIndex.{EoIndex}

@@ -2,24 +2,16 @@
 ghost use mathlib.Core.Path.{_≡_};
 ghost use Rattle.index.specs.Answers.{coAnswer, eoAnswer, eComboAnswer, cpAnswer, udEpAnswer, eEpAnswer, epAnswer};
 ghost use Rattle.index.specs.Answers.{corners, edges, cornersRefused, edgesRefused};
-ghost use Rattle.index.specs.Coordinates.{coOf, eoOf, eComboOf, cpOf, udEpOf, eEpOf, epOf};
+ghost use Rattle.numbering.specs.Coordinates.{coOf, eoOf, eComboOf, cpOf, udEpOf, eEpOf, epOf};
 use moves::Verdict;
+use numbering::Co;
+use numbering::Cp;
+use numbering::ECombo;
+use numbering::EEp;
+use numbering::Eo;
+use numbering::UdEp;
+use numbering::inner;
 use pieces::inner::in_range;
-
-pub mod inner;
-
-// The six coordinates of the search, each a kind of its own: their numbers can't be taken for one another.
-pub struct Co(pub u16);
-
-pub struct Eo(pub u16);
-
-pub struct ECombo(pub u16);
-
-pub struct Cp(pub u16);
-
-pub struct UdEp(pub u16);
-
-pub struct EEp(pub u16);
 
 // A coordinate, or a refusal by its number.
 pub enum CoIndex {

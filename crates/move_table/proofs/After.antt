@@ -19,9 +19,9 @@ use Rattle.cubie.specs.declared.CubieCube.{CubieCube}
 use Rattle.cubie.proofs.Product.{solved-product}
 use Rattle.cubie.proofs.Solvable.{solvable-parts, solved-solvable, turn-solvable}
 use Rattle.cubie.proofs.Turns.{move-range, solved-range, turn-range}
-use Rattle.index.specs.Coordinates.{coNumber, eoNumber, eComboNumber, cpNumber, udEpNumber, eEpNumber}
-use Rattle.index.specs.Kinds.{co, eo, eCombo, cp, udEp, eEp}
-use Rattle.index.proofs.Numbers.{one-test, two-tests}
+use Rattle.numbering.specs.Coordinates.{coNumber, eoNumber, eComboNumber, cpNumber, udEpNumber, eEpNumber}
+use Rattle.numbering.specs.Kinds.{co, eo, eCombo, cp, udEp, eEp}
+use Rattle.numbering.proofs.Numbers.{one-test, two-tests}
 use Rattle.move_table.specs.Tables.{Domain, moved}
 
 -- what a domain says

@@ -12,7 +12,7 @@ use borrow.Author.Tests.{eqb-true, ltb-true}
 use Rattle.base.specs.Lists.{allBelow, Under}
 use Rattle.base.proofs.Tests.{and-true, below-true}
 use Rattle.moves.specs.Moves.{inverseMove, allMoves, phase2Moves}
-use Rattle.index.specs.Kinds.{after}
+use Rattle.numbering.specs.Kinds.{after}
 use Rattle.move_table.specs.Tables.{MoveTable, tableAt, columns, trueTable}
 use Rattle.move_table.proofs.Rows.{row-at, table-part, table-length}
 use Rattle.move_table.proofs.Six.{by-table}

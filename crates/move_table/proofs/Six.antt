@@ -8,8 +8,8 @@ use lib.ListN.{getD}
 use Rattle.base.specs.Lists.{Under}
 use Rattle.base.proofs.Tests.{inRange-under, under-at}
 use Rattle.moves.specs.Moves.{allMoves, phase2Moves}
-use Rattle.index.specs.Kinds.{Kind, Numbered}
-use Rattle.index.proofs.Numbers.{co-numbered, eo-numbered, e-combo-numbered, cp-numbered, ud-ep-numbered, e-ep-numbered}
+use Rattle.numbering.specs.Kinds.{Kind, Numbered}
+use Rattle.numbering.proofs.Numbers.{co-numbered, eo-numbered, e-combo-numbered, cp-numbered, ud-ep-numbered, e-ep-numbered}
 use Rattle.move_table.specs.Tables.{tableAt, columns, size, Domain}
 
 pub by-table : (P : ℕ → Type 0) → P 0 → P 1 → P 2 → P 3 → P 4 → P 5 → (t : ℕ) → t < 6 → P t

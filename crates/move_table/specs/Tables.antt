@@ -7,7 +7,7 @@ use lib.ListN.{length, getD}
 use Rattle.base.specs.Lists.{pick, range}
 use Rattle.cubie.specs.Cube.{bytesOf, moveOf, turn}
 use Rattle.moves.specs.Moves.{allMoves, phase2Moves}
-use Rattle.index.specs.Kinds.{Kind, co, eo, eCombo, cp, udEp, eEp, coordinate, after}
+use Rattle.numbering.specs.Kinds.{Kind, co, eo, eCombo, cp, udEp, eEp, coordinate, after}
 
 -- "Flat, row after row": a row for each number of the coordinate, a column for each move
 pub record MoveTable : Type 0 where

@@ -16,8 +16,8 @@ use Rattle.base.proofs.Tests.{under-inRange}
 use Rattle.cubie.specs.Cube.{InRange, applyMoves}
 use Rattle.cubie.specs.Solvable.{solvable}
 use Rattle.cubie.specs.declared.CubieCube.{CubieCube}
-use Rattle.index.proofs.Numbers.{co-numbered, eo-numbered, e-combo-numbered}
-use Rattle.index.proofs.Phases.{four-low}
+use Rattle.numbering.proofs.Numbers.{co-numbered, eo-numbered, e-combo-numbered}
+use Rattle.numbering.proofs.Phases.{four-low}
 use Rattle.phase2.specs.Rules.{phase1, Turns, Fars, Coords, At, at, Below, belowOf, cutOf, goOf, Ans, solved, nothing, spent, refused, rules}
 use Rattle.phase2.specs.Paths.{wordOf}
 use Rattle.phase2.specs.Second.{coords2, run2}

@@ -9,7 +9,7 @@ use lib.Dec.{ltb, leb}
 use Rattle.base.specs.Search.{Res, still, done, Rules, branch, deepen, enter}
 use Rattle.cubie.specs.Cube.{applyMoves}
 use Rattle.cubie.specs.declared.CubieCube.{CubieCube}
-use Rattle.index.specs.Kinds.{co, eo, eCombo, coordinate}
+use Rattle.numbering.specs.Kinds.{co, eo, eCombo, coordinate}
 use Rattle.pruning_table.specs.Check.{part}
 use Rattle.phase2.specs.Rules.{Turns, Fars, Coords, At, at, Ans, solved, nothing, spent, refused, phase1, rules}
 use Rattle.phase2.specs.Paths.{Stored, wordOf}

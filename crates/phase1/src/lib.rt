@@ -1,7 +1,7 @@
 // Phase 1 of the search: Phase1State and solve_phase1 of kewb's src/two_phase/solver.rs.
-use index::Co;
-use index::ECombo;
-use index::Eo;
+use numbering::Co;
+use numbering::ECombo;
+use numbering::Eo;
 
 pub mod inner;
 

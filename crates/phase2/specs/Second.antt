@@ -5,7 +5,7 @@ use mathlib.Core.Bool.{Bool, true, false}
 use mathlib.Core.List.{List, []}
 use Rattle.base.specs.Search.{Res, still, done, Rules, enter}
 use Rattle.cubie.specs.declared.CubieCube.{CubieCube}
-use Rattle.index.specs.Kinds.{cp, udEp, eEp, coordinate}
+use Rattle.numbering.specs.Kinds.{cp, udEp, eEp, coordinate}
 use Rattle.pruning_table.specs.Check.{part}
 use Rattle.phase2.specs.Rules.{Turns, Fars, Coords, At, at, Ans, solved, nothing, spent, refused, phase2, rules}
 use Rattle.phase2.specs.Paths.{Stored, wordOf}

@@ -10,17 +10,17 @@ ghost use Rattle.phase2.specs.Second.{turns2, fars2, of2, coords2, turne
 use crate::Phase2State;
 use crate::Turned;
 use cubie::CubieCube;
-use index::Cp;
-use index::EEp;
-use index::UdEp;
-use index::inner::cp_to_index;
-use index::inner::e_ep_to_index;
-use index::inner::ud_ep_to_index;
 use move_table::CP_AT;
 use move_table::E_EP_AT;
 use move_table::UD_EP_AT;
 use moves::inner::is_move_available;
 use moves::inner::phase2_move;
+use numbering::Cp;
+use numbering::EEp;
+use numbering::UdEp;
+use numbering::inner::cp_to_index;
+use numbering::inner::e_ep_to_index;
+use numbering::inner::ud_ep_to_index;
 use pruning_table::CP_E_AT;
 use pruning_table::EP_E_AT;
 

@@ -1,7 +1,7 @@
 // Phase 2 of the search: Phase2State and solve_phase2 of kewb's src/two_phase/solver.rs.
-use index::Cp;
-use index::EEp;
-use index::UdEp;
+use numbering::Cp;
+use numbering::EEp;
+use numbering::UdEp;
 
 pub mod inner;
 

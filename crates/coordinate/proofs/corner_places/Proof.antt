@@ -1,7 +1,7 @@
 -- `coordinate::corner_places` meets its contract: a number above 16 bits is below no count. Assumes nothing.
 use mathlib.Core.Path.{_∙_}
 use native.Mathlib.Omega.{arith}
-use Rattle.index.specs.Kinds.{co, cp}
+use Rattle.numbering.specs.Kinds.{co, cp}
 use Rattle.coordinate.proofs.Answers.{corners-narrow}
 use borrow.Author.Needs.{needs}
 use Rattle.coordinate.proofs.corner_places.Statement.{statement}

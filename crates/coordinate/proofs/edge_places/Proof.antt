@@ -1,7 +1,7 @@
 -- `coordinate::edge_places` meets its contract: a number above 16 bits is below no count but that of ep. Assumes nothing.
 use mathlib.Core.Path.{_≡_, _∙_}
 use native.Mathlib.Omega.{arith}
-use Rattle.index.specs.Kinds.{eo, eCombo, udEp, eEp}
+use Rattle.numbering.specs.Kinds.{eo, eCombo, udEp, eEp}
 use Rattle.coordinate.proofs.Answers.{edges-narrow}
 use borrow.Author.Needs.{needs}
 use Rattle.coordinate.proofs.edge_places.Statement.{statement}

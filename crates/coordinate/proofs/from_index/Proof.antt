@@ -5,7 +5,7 @@ use native.Mathlib.Omega.{arith}
 use denote.Ref.{now}
 use lib.ListN.{length}
 use Rattle.index.specs.Answers.{corners}
-use Rattle.index.specs.Kinds.{Kind}
+use Rattle.numbering.specs.Kinds.{Kind}
 use Rattle.coordinate.specs.Calls.{kindAt}
 use Rattle.coordinate.proofs.Answers.{no-kind, other-size, right-size, corner-kind, edge-kind, edge-places, arrange-unfit, corners-fit, edges-fit}
 use borrow.Author.Needs.{needs}

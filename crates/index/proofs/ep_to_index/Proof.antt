@@ -3,7 +3,8 @@ use mathlib.Core.Path.{_≡_}
 use native.Mathlib.Omega.{arith}
 use lib.ListN.{length}
 use Rattle.base.proofs.Tests.{inRange-under, under-more}
-use Rattle.index.proofs.Answers.{failed, passed, number-small}
+use Rattle.numbering.proofs.Numbers.{number-small}
+use Rattle.index.proofs.Answers.{failed, passed}
 use borrow.Author.Needs.{needs}
 use Rattle.index.proofs.ep_to_index.Statement.{statement}
 use Rattle.index.proofs.ep_to_index.Tie as tie

@@ -4,7 +4,7 @@ use borrow.Author.Needs.{needs}
 use Rattle.index.proofs.index_to_co.Statement.{statement}
 use Rattle.index.proofs.index_to_co.Tie as tie
 use Rattle.index.proofs.corners_refused.Reads as corners-refused-reads
-use Rattle.index.proofs.inner.index_to_co.Reads as index-to-co-reads
+use Rattle.numbering.proofs.inner.index_to_co.Reads as index-to-co-reads
 
 corners-refused-requires : tie.Need-corners-refused-requires
 corners-refused-requires c κs = search needs

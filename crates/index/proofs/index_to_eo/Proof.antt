@@ -4,7 +4,7 @@ use borrow.Author.Needs.{needs}
 use Rattle.index.proofs.index_to_eo.Statement.{statement}
 use Rattle.index.proofs.index_to_eo.Tie as tie
 use Rattle.index.proofs.edges_refused.Reads as edges-refused-reads
-use Rattle.index.proofs.inner.index_to_eo.Reads as index-to-eo-reads
+use Rattle.numbering.proofs.inner.index_to_eo.Reads as index-to-eo-reads
 
 edges-refused-requires : tie.Need-edges-refused-requires
 edges-refused-requires c κs = search needs

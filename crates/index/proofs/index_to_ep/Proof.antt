@@ -1,8 +1,8 @@
 -- `index::index_to_ep` meets its contract. Assumes nothing.
 use mathlib.Core.Path.{_≡_, _∙_}
 use borrow.Author.Tests.{le-ltb, lt-ltb}
-use Rattle.index.specs.Coordinates.{epOf}
-use Rattle.index.proofs.Fill.{add-zeros}
+use Rattle.numbering.specs.Coordinates.{epOf}
+use Rattle.numbering.proofs.Fill.{add-zeros}
 use borrow.Author.Needs.{needs}
 use Rattle.index.proofs.index_to_ep.Statement.{statement}
 use Rattle.index.proofs.index_to_ep.Tie as tie

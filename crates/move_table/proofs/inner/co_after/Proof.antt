@@ -8,7 +8,7 @@ use lib.ListN.{length}
 use Rattle.base.specs.Lists.{Under}
 use Rattle.base.specs.Product.{twisted}
 use Rattle.cubie.proofs.Turns.{move-range}
-use Rattle.index.specs.Coordinates.{coNumber}
+use Rattle.numbering.specs.Coordinates.{coNumber}
 use Rattle.move_table.proofs.After.{co-under, moved-co, twists-under}
 use Rattle.move_table.proofs.Cubes.{all-cubes, corners-at, twists-at}
 use borrow.Author.Needs.{needs}

@@ -5,7 +5,7 @@ use denote.Ref.{now}
 use lib.ListN.{length}
 use Rattle.base.specs.Product.{compose}
 use Rattle.cubie.proofs.Turns.{move-range}
-use Rattle.index.specs.Coordinates.{cpNumber}
+use Rattle.numbering.specs.Coordinates.{cpNumber}
 use Rattle.move_table.proofs.After.{moved-cp}
 use Rattle.move_table.proofs.Cubes.{all-cubes, corners-at}
 use borrow.Author.Needs.{needs}

@@ -3,7 +3,7 @@ use mathlib.Core.Path.{_≡_, sym, ap, subst, _∙_}
 use Prim.Native.Nat.{ℕ}
 use denote.Ref.{now}
 use Rattle.base.specs.Perm.{below}
-use Rattle.index.specs.Coordinates.{eComboNumber, udEpNumber, eEpNumber}
+use Rattle.numbering.specs.Coordinates.{eComboNumber, udEpNumber, eEpNumber}
 use Rattle.move_table.specs.Tables.{tableAt, Domain, moved}
 use Rattle.move_table.proofs.After.{four-below, moved-combo, moved-ud, moved-e}
 use Rattle.move_table.proofs.Six.{the-sixth}

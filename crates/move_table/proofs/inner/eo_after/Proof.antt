@@ -8,7 +8,7 @@ use lib.ListN.{length}
 use Rattle.base.specs.Lists.{Under}
 use Rattle.base.specs.Product.{twisted}
 use Rattle.cubie.proofs.Turns.{move-range}
-use Rattle.index.specs.Coordinates.{eoNumber}
+use Rattle.numbering.specs.Coordinates.{eoNumber}
 use Rattle.move_table.proofs.After.{eo-under, moved-eo, flips-under}
 use Rattle.move_table.proofs.Cubes.{all-cubes, edges-at, flips-at}
 use borrow.Author.Needs.{needs}

@@ -8,7 +8,7 @@ use lib.Dec.{lit≤}
 use lib.ListN.{set}
 use borrow.Author.Tests.{not-true, not-false}
 use Rattle.base.proofs.Search.{walk-end}
-use Rattle.index.proofs.Phases.{phase1-column}
+use Rattle.numbering.proofs.Phases.{phase1-column}
 use Rattle.phase2.specs.Paths.{Holds, wordOf}
 use Rattle.phase2.proofs.Facts.{word-open, word-ended}
 use Rattle.phase2.proofs.Path.{holds-more, popped}

@@ -2,7 +2,7 @@
 use mathlib.Core.Path.{_≡_, refl, sym, subst}
 use lib.ListN.{length}
 use Rattle.cubie.proofs.Range.{ranges, in-range}
-use Rattle.index.proofs.Phases.{four-low}
+use Rattle.numbering.proofs.Phases.{four-low}
 use Rattle.phase2.specs.Rules.{Below, phase1}
 use Rattle.phase1.specs.First.{coords1}
 use Rattle.phase1.proofs.Found.{coords-below}

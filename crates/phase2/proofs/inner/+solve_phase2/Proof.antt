@@ -10,7 +10,7 @@ use lib.Dec.{lit≤}
 use lib.ListN.{take, set}
 use Rattle.base.specs.Search.{enter, walkFrom}
 use Rattle.base.proofs.Search.{walk-end}
-use Rattle.index.proofs.Phases.{phase2-column}
+use Rattle.numbering.proofs.Phases.{phase2-column}
 use Rattle.phase2.specs.Rules.{at}
 use Rattle.phase2.specs.Paths.{Holds, wordOf}
 use Rattle.phase2.specs.Second.{turns2, fars2, of2, rules2, finish2, Leaves2}

@@ -2,7 +2,7 @@
 use mathlib.Core.Path.{_≡_, refl}
 use native.Mathlib.Omega.{arith}
 use lib.ListN.{length, take, drop, length-take, length-drop}
-use Rattle.index.proofs.Answers.{number-small}
+use Rattle.numbering.proofs.Numbers.{number-small}
 use borrow.Author.Needs.{needs}
 use Rattle.phase2.proofs.inner.phase2_state.Statement.{statement}
 use Rattle.phase2.proofs.inner.phase2_state.Tie as tie
