@@ -8,16 +8,19 @@ use lib.Dec.{eqb, leb}
 use lib.ListN.{length, take, drop}
 use lib.Seq.{take-append-seam, take-length}
 use borrow.Author.Tests.{eq-eqb, ne-eqb, eqb-true, leb-true}
-use Rattle.base.specs.Lists.{pick, inRange, Under}
+use Rattle.base.specs.Lists.{pick, inRange, sameList, Under}
 use Rattle.base.proofs.Tests.{inRange-under}
 use Rattle.cubie.specs.Answers.{cubed, refusalWith}
+use Rattle.cubie.specs.Solvable.{solvable}
 use Rattle.cubie.specs.declared.CubieCube.{CubieCube}
 use Rattle.moves.specs.declared.Verdict.the-variants as verdict
 use Rattle.scramble.specs.Answers.{over, refusal, parsedAs, parsedText, parsedRoom, roomAfter}
 use Rattle.scramble.specs.Text.{parse}
 use Rattle.scramble.specs.declared.Parsed.the-variants.{Moves, Refused}
-use Rattle.facelet.specs.Reader.{cubeRead, strictRefusal}
-use Rattle.judgement.specs.Judge.{stickerLine, moveLine, refusedScore, scoreOf, textRefusal, scoreMoves, scoreLines, scored}
+use Rattle.facelet.specs.Picture.{picture}
+use Rattle.facelet.specs.Reader.{allColors, cubeRead, plainRefusal, strictRefusal}
+use Rattle.lines.specs.Lines.{firstLine}
+use Rattle.judgement.specs.Judge.{moveLine, Short, refusedScore, scoreOf, textRefusal, scoreMoves, scoreLines, scored}
 use Rattle.judgement.specs.declared.Score.{Score}
 
 -- the number of a cube's refusal
@@ -59,10 +62,10 @@ text-taken t room n l h = go (inRange 18 (parse t)) (leb (length (parse t)) (len
 pub first-places : (d l : List ℕ) (n : ℕ) → n ≡ length l → take n (over d 0 l) ≡ l
 first-places d l n e = ap (λ (k : ℕ). take k (over d 0 l)) e ∙ ap (λ (m : List ℕ). take (length l) (m ++ drop (0 + length l) d)) (take-length l) ∙ take-append-seam l (drop (0 + length l) d)
 
--- no number of moves or strokes above 255 is told, so three digits are enough
+-- no number of moves or strokes above 255 is told
 pub few-moves : (s : List ℕ) → (scored s .moves ≤ 255) × (scored s .strokes ≤ 255)
 unfolding scored scoreLines scoreMoves textRefusal
-few-moves s = go (leb (length s) 1024) (eqb (strictRefusal (stickerLine s)) 0) (inRange 18 ms) (leb (length ms) 255) refl
+few-moves s = go (leb (length s) 1024) (eqb (strictRefusal (firstLine s)) 0) (inRange 18 ms) (leb (length ms) 255) refl
   where
     ms : List ℕ
     ms = parse (moveLine s)
@@ -70,7 +73,7 @@ few-moves s = go (leb (length s) 1024) (eqb (strictRefusal (stickerLine s)) 0) (
     told : Bool → Bool → Bool → Bool → Score
     told a b c d =
         pick a
-        (pick b (pick (eqb (pick c (pick d 0 10) 7) 0) (scoreOf (cubeRead (stickerLine s)) ms) (refusedScore (pick c (pick d 0 10) 7))) (refusedScore (strictRefusal (stickerLine s))))
+        (pick b (pick (eqb (pick c (pick d 0 10) 7) 0) (scoreOf (cubeRead (firstLine s)) ms) (refusedScore (pick c (pick d 0 10) 7))) (refusedScore (strictRefusal (firstLine s))))
         (refusedScore 10)
 
     go : (a b c d : Bool) → leb (length ms) 255 ≡ d → (told a b c d .moves ≤ 255) × (told a b c d .strokes ≤ 255)
@@ -79,3 +82,35 @@ few-moves s = go (leb (length s) 1024) (eqb (strictRefusal (stickerLine s)) 0) (
     go true true false d e = (omega arith, omega arith)
     go true true true false e = (omega arith, omega arith)
     go true true true true e = let h = leb-true (length ms) 255 e in (h, h)
+
+-- the refusals' numbers are small
+strict-le : (s : List ℕ) → strictRefusal s ≤ 15
+unfolding strictRefusal plainRefusal
+strict-le s = go (eqb (length s) 54) (allColors s) (solvable (cubeRead s)) (sameList (picture (cubeRead s)) s)
+  where
+    go : (a b c d : Bool) → pick (eqb (pick a (pick b (pick c 0 3) 2) 1) 0) (pick d 0 15) (pick a (pick b (pick c 0 3) 2) 1) ≤ 15
+    go false b c d = omega arith
+    go true false c d = omega arith
+    go true true false d = omega arith
+    go true true true false = omega arith
+    go true true true true = omega arith
+
+refusal-le : (s : List ℕ) → scored s .refusal ≤ 15
+unfolding scored scoreLines scoreMoves textRefusal
+refusal-le s = go (leb (length s) 1024) (eqb (strictRefusal (firstLine s)) 0) (inRange 18 ms) (leb (length ms) 255)
+  where
+    ms : List ℕ
+    ms = parse (moveLine s)
+
+    go : (a b c d : Bool) → pick a (pick b (pick (eqb (pick c (pick d 0 10) 7) 0) (scoreOf (cubeRead (firstLine s)) ms) (refusedScore (pick c (pick d 0 10) 7))) (refusedScore (strictRefusal (firstLine s)))) (refusedScore 10) .refusal ≤ 15
+    go false b c d = omega arith
+    go true false c d = strict-le (firstLine s)
+    go true true false d = omega arith
+    go true true true false = omega arith
+    go true true true true = omega arith
+
+-- so three digits are enough
+pub short-score : (s : List ℕ) → Short (scored s)
+short-score s =
+    let few = few-moves s in
+    record { refusal = omega (arith, refusal-le s); moves = omega (arith, few .0); strokes = omega (arith, few .1) }

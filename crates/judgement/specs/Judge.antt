@@ -1,14 +1,14 @@
 -- Do these moves solve this cube? The bytes that are printed, as a function of the bytes that were read. Assumes nothing: these are definitions.
 use mathlib.Core.Bool.{Bool, false}
 use mathlib.Core.List.{List, [], _∷_, _++_}
-use Prim.Native.Nat.{ℕ, _+_, _-_, _/_, _%_}
-use lib.Dec.{eqb, ltb, leb}
-use lib.ListN.{length, getD, take, drop, replicate}
+use Prim.Native.Nat.{ℕ, _-_, _<_}
+use lib.Dec.{eqb, leb}
+use lib.ListN.{length, getD, take, replicate}
 use Rattle.base.specs.Lists.{pick, inRange}
-use Rattle.bytes.specs.Bytes.{indexOf}
 use Rattle.cubie.specs.Cube.{applyMoves, isHome}
 use Rattle.cubie.specs.declared.CubieCube.{CubieCube}
 use Rattle.facelet.specs.Reader.{cubeRead, strictRefusal}
+use Rattle.lines.specs.Lines.{firstLine, afterLine, line}
 use Rattle.scramble.specs.Answers.{over}
 use Rattle.scramble.specs.Strokes.{strokesOf}
 use Rattle.scramble.specs.Text.{parse}
@@ -17,17 +17,13 @@ use Rattle.judgement.specs.declared.Score.{Score}
 
 -- ---- what is read
 
--- "standard input holds a sticker line, then a move line": what stands before the first LF
-abbrev pub stickerLine : List ℕ → List ℕ
-stickerLine s = take (indexOf 10 s) s
-
 -- "one closing LF dropped"
 unfoldable pub closed : List ℕ → List ℕ
 closed t = pick (eqb (getD t (length t - 1) 0) 10) (take (length t - 1) t) t
 
 -- "the rest after the first LF is the move text; no LF means no moves"
 abbrev pub moveLine : List ℕ → List ℕ
-moveLine s = closed (drop (indexOf 10 s + 1) s)
+moveLine s = closed (afterLine s)
 
 -- ---- the score
 
@@ -50,21 +46,17 @@ scoreMoves c t = pick (eqb (textRefusal t) 0) (scoreOf c (parse t)) (refusedScor
 unfoldable pub scoreLines : List ℕ → List ℕ → Score
 scoreLines stickers t = pick (eqb (strictRefusal stickers) 0) (scoreMoves (cubeRead stickers) t) (refusedScore (strictRefusal stickers))
 
--- "Input above 1,024 bytes is 10 before all else"
+-- "standard input holds a sticker line, then a move line"; "Input above 1,024 bytes is 10 before all else"
 unfoldable pub scored : List ℕ → Score
-scored s = pick (leb (length s) 1024) (scoreLines (stickerLine s) (moveLine s)) (refusedScore 10)
+scored s = pick (leb (length s) 1024) (scoreLines (firstLine s) (moveLine s)) (refusedScore 10)
+
+-- no number of the score has more than three digits
+pub record Short (k : Score) : Type 0 where
+  pub refusal : k .refusal < 1000
+  pub moves : k .moves < 1000
+  pub strokes : k .strokes < 1000
 
 -- ---- what is printed
-
--- a number below 1,000 in decimal
-unfoldable pub decimal : ℕ → List ℕ
-decimal n =
-    pick (ltb n 10) ((48 + n % 10) ∷ [])
-    (pick (ltb n 100) ((48 + n / 10 % 10) ∷ (48 + n % 10) ∷ []) ((48 + n / 100 % 10) ∷ (48 + n / 10 % 10) ∷ (48 + n % 10) ∷ []))
-
--- a word, a number, LF
-abbrev pub line : List ℕ → ℕ → List ℕ
-line w n = w ++ (decimal n ++ (10 ∷ []))
 
 -- `refused `, `moves `, `strokes `
 abbrev pub refusedWord : List ℕ

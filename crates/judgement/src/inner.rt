@@ -1,11 +1,11 @@
 // What the judgement is made of: the score, and its text.
 ghost use mathlib.Core.Path.{_≡_};
 ghost use Prim.Native.Nat.{_+_, _≤_};
-ghost use lib.ListN.{length, take, drop};
+ghost use lib.ListN.{length, take};
 ghost use Rattle.base.specs.Lists.{Under};
 ghost use Rattle.cubie.specs.Cube.{InRange};
 ghost use Rattle.scramble.specs.Answers.{over};
-ghost use Rattle.judgement.specs.Judge.{closed, refusedScore, scoreOf, scoreMoves, scored, decimal, line, solvedLine, scoreText, printedAs};
+ghost use Rattle.judgement.specs.Judge.{closed, refusedScore, scoreOf, scoreMoves, scored, Short, solvedLine, scoreText, printedAs};
 use crate::Printed;
 use crate::Score;
 use cubie::CubieCube;
@@ -83,14 +83,6 @@ fn score_text(cube: CubieCube, text: &[u8]) -> Score
     score_moves(cube, &text[..end])
 }
 
-// Where the move text starts, if the sticker line ends at `end`.
-fn text_start(input: &[u8], end: usize) -> usize
-    requires { ⌜ end ≤ length (now input) ⌝ }
-    ensures { λ r. ⌜ (r ≤ length (now (input .entry))) × (drop r (now (input .entry)) ≡ drop (end + 1) (now (input .entry))) ⌝ }
-{
-    if end < input.len() { end + 1 } else { end }
-}
-
 // The score of what was read.
 pub fn score(input: &[u8]) -> Score
     ensures { λ r. ⌜ r ≡ scored (now (input .entry)) ⌝ }
@@ -105,53 +97,13 @@ pub fn score(input: &[u8]) -> Score
         Verdict::Refused(n) => refused(n),
         Verdict::Good => {
             let cube = read.cube;
-            let start = text_start(input, end);
+            let start = lines::inner::text_start(input, end);
             score_text(cube, &input[start..])
         }
     }
 }
 
 // ---- its text
-
-// Writes a number in decimal from `at` on; the place after it.
-fn put_decimal(n: usize, out: &mut [u8], at: usize) -> usize
-    requires { ⌜ at + length (decimal n) ≤ length (now out) ⌝ }
-    ensures { λ r. ⌜ r ≡ at + length (decimal n) ⌝ }
-    ensures { λ r. ⌜ now (out .exit) ≡ over (now (out .entry)) at (decimal n) ⌝ }
-{
-    let ones = 48 + (n % 10) as u8;
-    let tens = 48 + (n / 10 % 10) as u8;
-    let hundreds = 48 + (n / 100 % 10) as u8;
-    if n < 10 {
-        return put_bytes(&[ones], out, at);
-    }
-    if n < 100 {
-        return put_bytes(&[tens, ones], out, at);
-    }
-    put_bytes(&[hundreds, tens, ones], out, at)
-}
-
-// Writes bytes from `at` on; the place after them.
-fn put_bytes(bytes: &[u8], out: &mut [u8], at: usize) -> usize
-    requires { ⌜ at + length (now bytes) ≤ length (now out) ⌝ }
-    ensures { λ r. ⌜ r ≡ at + length (now (bytes .entry)) ⌝ }
-    ensures { λ r. ⌜ now (out .exit) ≡ over (now (out .entry)) at (now (bytes .entry)) ⌝ }
-{
-    pieces::inner::copy_in(bytes, out, at);
-    at + bytes.len()
-}
-
-// Writes a word, a number and LF; the place after them.
-fn put_line(word: &[u8], n: usize, out: &mut [u8], at: usize) -> usize
-    requires { ⌜ at + length (line (now word) n) ≤ length (now out) ⌝ }
-    ensures { λ r. ⌜ r ≡ at + length (line (now (word .entry)) n) ⌝ }
-    ensures { λ r. ⌜ now (out .exit) ≡ over (now (out .entry)) at (line (now (word .entry)) n) ⌝ }
-{
-    let a = put_bytes(word, out, at);
-    let b = put_decimal(n, out, a);
-    out[b] = b'\n';
-    b + 1
-}
 
 // Writes the line of the answer; the place after it.
 fn put_solved(solved: bool, out: &mut [u8], at: usize) -> usize
@@ -161,31 +113,32 @@ fn put_solved(solved: bool, out: &mut [u8], at: usize) -> usize
 {
     if solved {
         let yes = SOLVED_YES;
-        return put_bytes(&yes, out, at);
+        return lines::inner::put_bytes(&yes, out, at);
     }
     let no = SOLVED_NO;
-    put_bytes(&no, out, at)
+    lines::inner::put_bytes(&no, out, at)
 }
 
 // Writes the text of a score; its length.
 fn put_score(score: Score, out: &mut [u8]) -> usize
-    requires { ⌜ 64 ≤ length (now out) ⌝ }
+    requires { ⌜ (64 ≤ length (now out)) × Short score ⌝ }
     ensures { λ r. ⌜ r ≡ length (scoreText score) ⌝ }
     ensures { λ r. ⌜ now (out .exit) ≡ over (now (out .entry)) 0 (scoreText score) ⌝ }
 {
     if score.refusal != 0 {
         let word = REFUSED;
-        return put_line(&word, score.refusal as usize, out, 0);
+        return lines::inner::put_line(&word, score.refusal as u64, out, 0);
     }
     let word = MOVES;
-    let a = put_line(&word, score.moves, out, 0);
+    let a = lines::inner::put_line(&word, score.moves as u64, out, 0);
     let word = STROKES;
-    let b = put_line(&word, score.strokes, out, a);
+    let b = lines::inner::put_line(&word, score.strokes as u64, out, a);
     put_solved(score.solved, out, b)
 }
 
 // The text of a score.
 pub fn print(score: Score) -> Printed
+    requires { ⌜ Short score ⌝ }
     ensures { λ r. ⌜ r ≡ printedAs (scoreText score) ⌝ }
 {
     let mut text = [0u8; 64];

@@ -7,8 +7,10 @@ use denote.Ref.{now}
 use lib.ListN.{length, length-append}
 use borrow.Author.Tests.{eq-eqb, ne-eqb}
 use Rattle.scramble.specs.Answers.{over}
-use Rattle.judgement.specs.Judge.{decimal, line, movesWord, strokesWord, refusedWord, solvedLine, scoreText}
-use Rattle.judgement.proofs.Written.{behind, over-size, line-length, decimal-le, solved-le}
+use Rattle.lines.specs.Lines.{decimal, line}
+use Rattle.lines.proofs.Written.{behind, over-size, line-length}
+use Rattle.judgement.specs.Judge.{movesWord, strokesWord, refusedWord, solvedLine, scoreText}
+use Rattle.judgement.proofs.Written.{decimal-le, solved-le}
 use borrow.Author.Needs.{needs}
 use Rattle.judgement.proofs.inner.put_score.Statement.{statement}
 use Rattle.judgement.proofs.inner.put_score.Tie as tie
@@ -23,7 +25,7 @@ put-line-requires : tie.Need-put-line-requires
 put-line-requires c κs =
     let k = c .before .before .before .before .before .before .args .score in
     let d = now (c .before .before .before .before .before .before .args .out) in
-    omega (arith, c .before .before .before .before .before .before .pre, decimal-le (k .refusal), line-length refusedWord (decimal (k .refusal)))
+    omega (arith, c .before .before .before .before .before .before .pre .0, decimal-le (k .refusal) (c .before .before .before .before .before .before .pre .1 .refusal), line-length refusedWord (decimal (k .refusal)))
 
 same-length : tie.Need-same-length
 same-length c = search needs
@@ -42,9 +44,9 @@ put-line-requires-2 : tie.Need-put-line-requires-2
 put-line-requires-2 c κs =
     let k = c .before .before .before .before .before .args .score in
     let d = now (c .before .before .before .before .before .args .out) in
-    let m1 = decimal-le (k .moves) in
+    let m1 = decimal-le (k .moves) (c .before .before .before .before .before .pre .1 .moves) in
     let l1 = line-length movesWord (decimal (k .moves)) in
-    omega (arith, c .before .before .before .before .before .pre, m1, l1)
+    omega (arith, c .before .before .before .before .before .pre .0, m1, l1)
 
 slice-aggregate-put-line-3 : tie.Need-slice-aggregate-put-line-3
 slice-aggregate-put-line-3 c = search needs
@@ -53,28 +55,28 @@ put-line-requires-3 : tie.Need-put-line-requires-3
 put-line-requires-3 c κs =
     let k = c .before .before .before .before .before .before .before .before .before .before .args .score in
     let d = now (c .before .before .before .before .before .before .before .before .before .before .args .out) in
-    let m1 = decimal-le (k .moves) in
+    let m1 = decimal-le (k .moves) (c .before .before .before .before .before .before .before .before .before .before .pre .1 .moves) in
     let l1 = line-length movesWord (decimal (k .moves)) in
     let one = c .before .before .before .before .put-line2 .ensures in
-    let d1 = over-size d (c .before .before .before .before .put-line2 .last .1 .1 .0) 0 (line movesWord (k .moves)) (omega (arith, c .before .before .before .before .before .before .before .before .before .before .pre, m1, l1)) (one .1) in
-    let m2 = decimal-le (k .strokes) in
+    let d1 = over-size d (c .before .before .before .before .put-line2 .last .1 .1 .0) 0 (line movesWord (k .moves)) (omega (arith, c .before .before .before .before .before .before .before .before .before .before .pre .0, m1, l1)) (one .1) in
+    let m2 = decimal-le (k .strokes) (c .before .before .before .before .before .before .before .before .before .before .pre .1 .strokes) in
     let l2 = line-length strokesWord (decimal (k .strokes)) in
-    omega (arith, c .before .before .before .before .before .before .before .before .before .before .pre, m1, l1, one .0, d1, m2, l2)
+    omega (arith, c .before .before .before .before .before .before .before .before .before .before .pre .0, m1, l1, one .0, d1, m2, l2)
 
 put-solved-requires : tie.Need-put-solved-requires
 put-solved-requires c κs =
     let k = c .before .before .before .before .before .before .before .before .before .before .before .before .before .before .args .score in
     let d = now (c .before .before .before .before .before .before .before .before .before .before .before .before .before .before .args .out) in
-    let m1 = decimal-le (k .moves) in
+    let m1 = decimal-le (k .moves) (c .before .before .before .before .before .before .before .before .before .before .before .before .before .before .pre .1 .moves) in
     let l1 = line-length movesWord (decimal (k .moves)) in
     let one = c .before .before .before .before .before .before .before .before .put-line2 .ensures in
-    let d1 = over-size d (c .before .before .before .before .before .before .before .before .put-line2 .last .1 .1 .0) 0 (line movesWord (k .moves)) (omega (arith, c .before .before .before .before .before .before .before .before .before .before .before .before .before .before .pre, m1, l1)) (one .1) in
-    let m2 = decimal-le (k .strokes) in
+    let d1 = over-size d (c .before .before .before .before .before .before .before .before .put-line2 .last .1 .1 .0) 0 (line movesWord (k .moves)) (omega (arith, c .before .before .before .before .before .before .before .before .before .before .before .before .before .before .pre .0, m1, l1)) (one .1) in
+    let m2 = decimal-le (k .strokes) (c .before .before .before .before .before .before .before .before .before .before .before .before .before .before .pre .1 .strokes) in
     let l2 = line-length strokesWord (decimal (k .strokes)) in
     let two = c .before .before .before .put-line3 .ensures in
-    let d2 = over-size (c .before .before .before .before .before .before .before .before .put-line2 .last .1 .1 .0) (c .before .before .before .put-line3 .last .1 .1 .0) (c .before .before .before .before .before .before .before .before .put-line2 .result) (line strokesWord (k .strokes)) (omega (arith, c .before .before .before .before .before .before .before .before .before .before .before .before .before .before .pre, m1, l1, one .0, d1, m2, l2)) (two .1) in
+    let d2 = over-size (c .before .before .before .before .before .before .before .before .put-line2 .last .1 .1 .0) (c .before .before .before .put-line3 .last .1 .1 .0) (c .before .before .before .before .before .before .before .before .put-line2 .result) (line strokesWord (k .strokes)) (omega (arith, c .before .before .before .before .before .before .before .before .before .before .before .before .before .before .pre .0, m1, l1, one .0, d1, m2, l2)) (two .1) in
     let m3 = solved-le (k .solved) in
-    omega (arith, c .before .before .before .before .before .before .before .before .before .before .before .before .before .before .pre, m1, l1, one .0, d1, m2, l2, two .0, d2, m3)
+    omega (arith, c .before .before .before .before .before .before .before .before .before .before .before .before .before .before .pre .0, m1, l1, one .0, d1, m2, l2, two .0, d2, m3)
 
 same-length-2 : tie.Need-same-length-2
 same-length-2 c = search needs
@@ -84,22 +86,22 @@ unfolding scoreText
 returns-2 c =
     let k = c .before .before .before .before .before .before .before .before .before .before .before .before .before .before .before .before .before .args .score in
     let d = now (c .before .before .before .before .before .before .before .before .before .before .before .before .before .before .before .before .before .args .out) in
-    let m1 = decimal-le (k .moves) in
+    let m1 = decimal-le (k .moves) (c .before .before .before .before .before .before .before .before .before .before .before .before .before .before .before .before .before .pre .1 .moves) in
     let l1 = line-length movesWord (decimal (k .moves)) in
     let one = c .before .before .before .before .before .before .before .before .before .before .before .put-line2 .ensures in
-    let d1 = over-size d (c .before .before .before .before .before .before .before .before .before .before .before .put-line2 .last .1 .1 .0) 0 (line movesWord (k .moves)) (omega (arith, c .before .before .before .before .before .before .before .before .before .before .before .before .before .before .before .before .before .pre, m1, l1)) (one .1) in
-    let m2 = decimal-le (k .strokes) in
+    let d1 = over-size d (c .before .before .before .before .before .before .before .before .before .before .before .put-line2 .last .1 .1 .0) 0 (line movesWord (k .moves)) (omega (arith, c .before .before .before .before .before .before .before .before .before .before .before .before .before .before .before .before .before .pre .0, m1, l1)) (one .1) in
+    let m2 = decimal-le (k .strokes) (c .before .before .before .before .before .before .before .before .before .before .before .before .before .before .before .before .before .pre .1 .strokes) in
     let l2 = line-length strokesWord (decimal (k .strokes)) in
     let two = c .before .before .before .before .before .before .put-line3 .ensures in
-    let d2 = over-size (c .before .before .before .before .before .before .before .before .before .before .before .put-line2 .last .1 .1 .0) (c .before .before .before .before .before .before .put-line3 .last .1 .1 .0) (c .before .before .before .before .before .before .before .before .before .before .before .put-line2 .result) (line strokesWord (k .strokes)) (omega (arith, c .before .before .before .before .before .before .before .before .before .before .before .before .before .before .before .before .before .pre, m1, l1, one .0, d1, m2, l2)) (two .1) in
+    let d2 = over-size (c .before .before .before .before .before .before .before .before .before .before .before .put-line2 .last .1 .1 .0) (c .before .before .before .before .before .before .put-line3 .last .1 .1 .0) (c .before .before .before .before .before .before .before .before .before .before .before .put-line2 .result) (line strokesWord (k .strokes)) (omega (arith, c .before .before .before .before .before .before .before .before .before .before .before .before .before .before .before .before .before .pre .0, m1, l1, one .0, d1, m2, l2)) (two .1) in
     let m3 = solved-le (k .solved) in
     let e = eq-eqb (k .refusal) 0 (c .before .before .before .before .before .before .before .before .before .before .before .before .before .before .if1 .left) in
     let first = line movesWord (k .moves) in
     let second = line strokesWord (k .strokes) in
     let third = solvedLine (k .solved) in
     let end = c .before .before .put-solved .ensures in
-    let room : 0 + length first ≤ length d = omega (arith, c .before .before .before .before .before .before .before .before .before .before .before .before .before .before .before .before .before .pre, m1, l1) in
-    let next : c .before .before .before .before .before .before .before .before .before .before .before .put-line2 .result + length second ≤ length (c .before .before .before .before .before .before .before .before .before .before .before .put-line2 .last .1 .1 .0) = omega (arith, c .before .before .before .before .before .before .before .before .before .before .before .before .before .before .before .before .before .pre, m1, l1, one .0, d1, m2, l2) in
+    let room : 0 + length first ≤ length d = omega (arith, c .before .before .before .before .before .before .before .before .before .before .before .before .before .before .before .before .before .pre .0, m1, l1) in
+    let next : c .before .before .before .before .before .before .before .before .before .before .before .put-line2 .result + length second ≤ length (c .before .before .before .before .before .before .before .before .before .before .before .put-line2 .last .1 .1 .0) = omega (arith, c .before .before .before .before .before .before .before .before .before .before .before .before .before .before .before .before .before .pre .0, m1, l1, one .0, d1, m2, l2) in
     let size : c .before .before .put-solved .result ≡ length (first ++ (second ++ third)) = omega (arith, end .0, two .0, one .0, length-append first (second ++ third), length-append second third) in
     (rw e size, rw e (behind d (c .before .before .before .before .before .before .before .before .before .before .before .put-line2 .last .1 .1 .0) _ first (second ++ third) 0 (c .before .before .before .before .before .before .before .before .before .before .before .put-line2 .result) room (one .1) (one .0) (behind (c .before .before .before .before .before .before .before .before .before .before .before .put-line2 .last .1 .1 .0) (c .before .before .before .before .before .before .put-line3 .last .1 .1 .0) _ second third (c .before .before .before .before .before .before .before .before .before .before .before .put-line2 .result) (c .before .before .before .before .before .before .put-line3 .result) next (two .1) (two .0) (end .1))))
 

@@ -1,10 +1,10 @@
--- `judgement::inner::text_start` meets its contract. Assumes nothing.
+-- `lines::inner::text_start` meets its contract. Assumes nothing.
 use native.Mathlib.Omega.{arith}
 use denote.Ref.{now}
-use Rattle.judgement.proofs.Lines.{drop-end}
+use Rattle.lines.proofs.Parts.{drop-end}
 use borrow.Author.Needs.{needs}
-use Rattle.judgement.proofs.inner.text_start.Statement.{statement}
-use Rattle.judgement.proofs.inner.text_start.Tie as tie
+use Rattle.lines.proofs.inner.text_start.Statement.{statement}
+use Rattle.lines.proofs.inner.text_start.Tie as tie
 
 add-result : tie.Need-add-result
 add-result c = search needs

@@ -1,4 +1,4 @@
--- `judgement::inner::put_line` meets its contract. Assumes nothing.
+-- `lines::inner::put_line` meets its contract. Assumes nothing.
 use mathlib.Core.Path.{_≡_, sym, ap, _∙_}
 use mathlib.Core.List.{List, [], _∷_, _++_}
 use Prim.Native.Nat.{ℕ, _+_, _≤_, _<_}
@@ -6,11 +6,11 @@ use native.Mathlib.Omega.{arith}
 use denote.Ref.{now}
 use lib.ListN.{length, length-set, length-append}
 use Rattle.scramble.specs.Answers.{over}
-use Rattle.judgement.specs.Judge.{decimal, line}
-use Rattle.judgement.proofs.Written.{behind, last-byte, over-size, line-length}
+use Rattle.lines.specs.Lines.{decimal, line}
+use Rattle.lines.proofs.Written.{behind, last-byte, over-size, line-length}
 use borrow.Author.Needs.{needs}
-use Rattle.judgement.proofs.inner.put_line.Statement.{statement}
-use Rattle.judgement.proofs.inner.put_line.Tie as tie
+use Rattle.lines.proofs.inner.put_line.Statement.{statement}
+use Rattle.lines.proofs.inner.put_line.Tie as tie
 
 put-bytes-requires : tie.Need-put-bytes-requires
 put-bytes-requires c κs =
