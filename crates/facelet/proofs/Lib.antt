@@ -6,4 +6,5 @@ pub mod Paint
 pub mod Places
 pub mod Ranges
 pub mod Readers
+pub mod Refusals
 pub mod Strict

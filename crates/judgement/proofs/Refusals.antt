@@ -1,35 +1,23 @@
 -- Which score there is. Assumes nothing.
 use mathlib.Core.Path.{_≡_, refl, sym, ap, _∙_}
 use mathlib.Core.Bool.{Bool, true, false}
-use mathlib.Core.List.{List, [], _∷_, _++_}
-use Prim.Native.Nat.{ℕ, _+_, _≤_, _<_}
+use mathlib.Core.List.{List, _++_}
+use Prim.Native.Nat.{ℕ, _+_, _≤_}
 use native.Mathlib.Omega.{arith}
 use lib.Dec.{eqb, leb}
 use lib.ListN.{length, take, drop}
 use lib.Seq.{take-append-seam, take-length}
-use borrow.Author.Tests.{eq-eqb, ne-eqb, eqb-true, leb-true}
-use Rattle.base.specs.Lists.{pick, inRange, sameList, Under}
+use borrow.Author.Tests.{leb-true}
+use Rattle.base.specs.Lists.{pick, inRange, Under}
 use Rattle.base.proofs.Tests.{inRange-under}
-use Rattle.cubie.specs.Answers.{cubed, refusalWith}
-use Rattle.cubie.specs.Solvable.{solvable}
-use Rattle.cubie.specs.declared.CubieCube.{CubieCube}
-use Rattle.moves.specs.declared.Verdict.the-variants as verdict
 use Rattle.scramble.specs.Answers.{over, refusal, parsedAs, parsedText, parsedRoom, roomAfter}
 use Rattle.scramble.specs.Text.{parse}
 use Rattle.scramble.specs.declared.Parsed.the-variants.{Moves, Refused}
-use Rattle.facelet.specs.Picture.{picture}
-use Rattle.facelet.specs.Reader.{allColors, cubeRead, plainRefusal, strictRefusal}
+use Rattle.facelet.specs.Reader.{cubeRead, strictRefusal}
+use Rattle.facelet.proofs.Refusals.{strict-le}
 use Rattle.lines.specs.Lines.{firstLine}
 use Rattle.judgement.specs.Judge.{moveLine, Short, refusedScore, scoreOf, textRefusal, scoreMoves, scoreLines, scored}
 use Rattle.judgement.specs.declared.Score.{Score}
-
--- the number of a cube's refusal
-pub cube-refused : (n k : ℕ) (c : CubieCube) → cubed n c .verdict ≡ verdict.Refused k → (eqb n 0 ≡ false) × (k ≡ n)
-cube-refused n k c h = go (eqb n 0) h
-  where
-    go : (p : Bool) → pick p (record { verdict = verdict.Good; cube = c }) (refusalWith n) .verdict ≡ verdict.Refused k → (p ≡ false) × (k ≡ n)
-    go true e = let f : _≡_ {A = ℕ} 0 1 = cc in (cc, cc)
-    go false e = (refl, cc)
 
 -- what the room of 255 moves tells of a text
 same-refusal : (t room : List ℕ) → length room ≡ 255 → refusal (parse t) (parse t) room ≡ textRefusal t
@@ -84,17 +72,6 @@ few-moves s = go (leb (length s) 1024) (eqb (strictRefusal (firstLine s)) 0) (in
     go true true true true e = let h = leb-true (length ms) 255 e in (h, h)
 
 -- the refusals' numbers are small
-strict-le : (s : List ℕ) → strictRefusal s ≤ 15
-unfolding strictRefusal plainRefusal
-strict-le s = go (eqb (length s) 54) (allColors s) (solvable (cubeRead s)) (sameList (picture (cubeRead s)) s)
-  where
-    go : (a b c d : Bool) → pick (eqb (pick a (pick b (pick c 0 3) 2) 1) 0) (pick d 0 15) (pick a (pick b (pick c 0 3) 2) 1) ≤ 15
-    go false b c d = omega arith
-    go true false c d = omega arith
-    go true true false d = omega arith
-    go true true true false = omega arith
-    go true true true true = omega arith
-
 refusal-le : (s : List ℕ) → scored s .refusal ≤ 15
 unfolding scored scoreLines scoreMoves textRefusal
 refusal-le s = go (leb (length s) 1024) (eqb (strictRefusal (firstLine s)) 0) (inRange 18 ms) (leb (length ms) 255)

@@ -8,9 +8,9 @@ use lib.Dec.{eqb}
 use lib.ListN.{length, replicate, length-append}
 use Rattle.base.specs.Lists.{pick}
 use Rattle.scramble.proofs.Over.{over-length}
-use Rattle.lines.specs.Lines.{decimal, line}
+use Rattle.lines.specs.Lines.{decimal, line, refusedWord, movesWord, strokesWord}
 use Rattle.lines.proofs.Written.{digits-le, line-length}
-use Rattle.judgement.specs.Judge.{Short, refusedWord, movesWord, strokesWord, solvedLine, scoreText, scored, printed}
+use Rattle.judgement.specs.Judge.{Short, solvedLine, scoreText, scored, printed}
 use Rattle.judgement.specs.declared.Score.{Score}
 use Rattle.judgement.proofs.Refusals.{short-score}
 

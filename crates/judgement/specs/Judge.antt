@@ -8,7 +8,7 @@ use Rattle.base.specs.Lists.{pick, inRange}
 use Rattle.cubie.specs.Cube.{applyMoves, isHome}
 use Rattle.cubie.specs.declared.CubieCube.{CubieCube}
 use Rattle.facelet.specs.Reader.{cubeRead, strictRefusal}
-use Rattle.lines.specs.Lines.{firstLine, afterLine, line}
+use Rattle.lines.specs.Lines.{firstLine, afterLine, line, refusedWord, movesWord, strokesWord}
 use Rattle.scramble.specs.Answers.{over}
 use Rattle.scramble.specs.Strokes.{strokesOf}
 use Rattle.scramble.specs.Text.{parse}
@@ -57,16 +57,6 @@ pub record Short (k : Score) : Type 0 where
   pub strokes : k .strokes < 1000
 
 -- ---- what is printed
-
--- `refused `, `moves `, `strokes `
-abbrev pub refusedWord : List ℕ
-refusedWord = 114 ∷ 101 ∷ 102 ∷ 117 ∷ 115 ∷ 101 ∷ 100 ∷ 32 ∷ []
-
-abbrev pub movesWord : List ℕ
-movesWord = 109 ∷ 111 ∷ 118 ∷ 101 ∷ 115 ∷ 32 ∷ []
-
-abbrev pub strokesWord : List ℕ
-strokesWord = 115 ∷ 116 ∷ 114 ∷ 111 ∷ 107 ∷ 101 ∷ 115 ∷ 32 ∷ []
 
 -- `solved yes` or `solved no`, LF
 unfoldable pub solvedLine : Bool → List ℕ

@@ -9,16 +9,13 @@ ghost use Rattle.judgement.specs.Judge.{closed, refusedScore, scoreOf, s
 use crate::Printed;
 use crate::Score;
 use cubie::CubieCube;
+use lines::MOVES;
+use lines::REFUSED;
+use lines::STROKES;
 use moves::Verdict;
 use scramble::Parsed;
 
-// The words of the four lines.
-const REFUSED: [u8; 8] = *b"refused ";
-
-const MOVES: [u8; 6] = *b"moves ";
-
-const STROKES: [u8; 8] = *b"strokes ";
-
+// The two lines of the answer.
 const SOLVED_YES: [u8; 11] = *b"solved yes\n";
 
 const SOLVED_NO: [u8; 10] = *b"solved no\n";

@@ -25,3 +25,13 @@ decimal n = decimalIn 20 n
 -- a word, a number, LF
 abbrev pub line : List ℕ → ℕ → List ℕ
 line w n = w ++ (decimal n ++ (10 ∷ []))
+
+-- `refused `, `moves `, `strokes `
+abbrev pub refusedWord : List ℕ
+refusedWord = 114 ∷ 101 ∷ 102 ∷ 117 ∷ 115 ∷ 101 ∷ 100 ∷ 32 ∷ []
+
+abbrev pub movesWord : List ℕ
+movesWord = 109 ∷ 111 ∷ 118 ∷ 101 ∷ 115 ∷ 32 ∷ []
+
+abbrev pub strokesWord : List ℕ
+strokesWord = 115 ∷ 116 ∷ 114 ∷ 111 ∷ 107 ∷ 101 ∷ 115 ∷ 32 ∷ []

@@ -1,11 +1,12 @@
 // What the public functions are made of: one word, then a text and its moves.
 ghost use mathlib.Core.Path.{_≡_};
+ghost use mathlib.Core.List.{map};
 ghost use Prim.Native.Nat.{_+_, _≤_, _<_, _^_};
 ghost use lib.Dec.{leb, eqb};
 ghost use lib.ListN.{length, drop};
 ghost use Rattle.base.specs.Lists.{Under};
 ghost use Rattle.scramble.specs.Answers.{over, movesCounted};
-ghost use Rattle.scramble.specs.Text.{letters, wordOf, place, numberOf, textOf, parse};
+ghost use Rattle.scramble.specs.Text.{letters, wordOf, place, numberOf, spaced, textOf, parse};
 use crate::Parsed;
 
 // The letters of the six layers.
@@ -149,6 +150,22 @@ pub fn text_fits(moves: &[u8], room: usize) -> bool
     true
 }
 
+// Writes the words of a list from `at` on, each with a space before it; the place after them.
+pub fn put_spaced(moves: &[u8], text: &mut [u8], at: usize) -> usize
+    requires { ⌜ Under 18 (now moves) × (at + length (spaced (map wordOf (now moves))) ≤ length (now text)) ⌝ }
+    ensures { λ r. ⌜ r ≡ at + length (spaced (map wordOf (now (moves .entry)))) ⌝ }
+    ensures { λ r. ⌜ now (text .exit) ≡ over (now (text .entry)) at (spaced (map wordOf (now (moves .entry)))) ⌝ }
+{
+    let mut end = at;
+    let mut i = 0;
+    while i < moves.len() {
+        text[end] = b' ';
+        end = put_word(moves[i], text, end + 1);
+        i += 1;
+    }
+    end
+}
+
 // Writes the text of a list of moves; how many bytes it has.
 pub fn put_text(moves: &[u8], text: &mut [u8]) -> usize
     requires { ⌜ Under 18 (now moves) × (length (textOf (now moves)) ≤ length (now text)) ⌝ }
@@ -158,12 +175,6 @@ pub fn put_text(moves: &[u8], text: &mut [u8]) -> usize
     if moves.len() == 0 {
         return 0;
     }
-    let mut at = put_word(moves[0], text, 0);
-    let mut i = 1;
-    while i < moves.len() {
-        text[at] = b' ';
-        at = put_word(moves[i], text, at + 1);
-        i += 1;
-    }
-    at
+    let at = put_word(moves[0], text, 0);
+    put_spaced(&moves[1..], text, at)
 }

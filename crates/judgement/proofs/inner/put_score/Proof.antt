@@ -1,15 +1,14 @@
 -- `judgement::inner::put_score` meets its contract. Assumes nothing.
-use mathlib.Core.Path.{_≡_, sym, ap, _∙_}
-use mathlib.Core.List.{List, [], _∷_, _++_}
-use Prim.Native.Nat.{ℕ, _+_, _≤_, _<_}
+use mathlib.Core.Path.{_≡_}
+use mathlib.Core.List.{_++_}
+use Prim.Native.Nat.{_+_, _≤_}
 use native.Mathlib.Omega.{arith}
 use denote.Ref.{now}
 use lib.ListN.{length, length-append}
 use borrow.Author.Tests.{eq-eqb, ne-eqb}
-use Rattle.scramble.specs.Answers.{over}
-use Rattle.lines.specs.Lines.{decimal, line}
+use Rattle.lines.specs.Lines.{decimal, line, refusedWord, movesWord, strokesWord}
 use Rattle.lines.proofs.Written.{behind, over-size, line-length}
-use Rattle.judgement.specs.Judge.{movesWord, strokesWord, refusedWord, solvedLine, scoreText}
+use Rattle.judgement.specs.Judge.{solvedLine, scoreText}
 use Rattle.judgement.proofs.Written.{decimal-le, solved-le}
 use borrow.Author.Needs.{needs}
 use Rattle.judgement.proofs.inner.put_score.Statement.{statement}

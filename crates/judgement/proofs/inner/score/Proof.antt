@@ -1,8 +1,7 @@
 -- `judgement::inner::score` meets its contract. Assumes nothing.
-use mathlib.Core.Path.{_≡_, refl, sym, ap, _∙_}
+use mathlib.Core.Path.{_≡_, sym, ap, _∙_}
 use mathlib.Core.List.{List}
 use Prim.Native.Nat.{ℕ, _+_, _-_}
-use native.Mathlib.Omega.{arith}
 use denote.Ref.{now}
 use lib.ListN.{length, take, drop}
 use lib.Seq.{length-take-le}
@@ -10,14 +9,13 @@ use borrow.Author.Tests.{le-leb, lt-leb, eq-eqb}
 use Rattle.bytes.specs.Bytes.{indexOf}
 use Rattle.cubie.specs.declared.CubeAnswer.{CubeAnswer}
 use Rattle.cubie.specs.declared.CubieCube.{CubieCube}
-use Rattle.cubie.specs.Cube.{InRange}
 use Rattle.cubie.proofs.Answers.{was-good, good-cube}
 use Rattle.facelet.specs.Reader.{cubeRead, strictRefusal, readStrict}
 use Rattle.facelet.proofs.Ranges.{read-range}
+use Rattle.facelet.proofs.Refusals.{cube-refused}
 use Rattle.judgement.specs.Judge.{closed, scoreMoves, scoreLines, scored}
 use Rattle.lines.specs.Lines.{firstLine}
 use Rattle.lines.proofs.Parts.{found, to-the-end}
-use Rattle.judgement.proofs.Refusals.{cube-refused}
 use borrow.Author.Needs.{needs}
 use Rattle.judgement.proofs.inner.score.Statement.{statement}
 use Rattle.judgement.proofs.inner.score.Tie as tie

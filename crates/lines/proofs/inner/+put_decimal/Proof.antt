@@ -1,10 +1,10 @@
 -- The cycle of calls {put_decimal}. The measure is the number. Assumes nothing.
-use mathlib.Core.Path.{_≡_, sym, ap, _∙_}
-use mathlib.Core.List.{[], _∷_, _++_}
+use mathlib.Core.Path.{sym, ap, _∙_}
+use mathlib.Core.List.{[], _∷_}
 use Prim.Native.Nat.{ℕ, _+_, _/_, _%_, _≤_, _<_}
 use native.Mathlib.Omega.{arith}
 use denote.Ref.{now}
-use lib.ListN.{length, length-set, length-append}
+use lib.ListN.{length, length-set}
 use Rattle.scramble.specs.Answers.{over}
 use Rattle.lines.specs.Lines.{decimal}
 use Rattle.lines.proofs.Written.{decimal-one, decimal-more, digits-more, behind, last-byte}

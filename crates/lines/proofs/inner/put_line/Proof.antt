@@ -1,12 +1,11 @@
 -- `lines::inner::put_line` meets its contract. Assumes nothing.
-use mathlib.Core.Path.{_≡_, sym, ap, _∙_}
-use mathlib.Core.List.{List, [], _∷_, _++_}
-use Prim.Native.Nat.{ℕ, _+_, _≤_, _<_}
+use mathlib.Core.Path.{_∙_}
+use mathlib.Core.List.{[], _∷_, _++_}
+use Prim.Native.Nat.{_+_, _≤_}
 use native.Mathlib.Omega.{arith}
 use denote.Ref.{now}
-use lib.ListN.{length, length-set, length-append}
-use Rattle.scramble.specs.Answers.{over}
-use Rattle.lines.specs.Lines.{decimal, line}
+use lib.ListN.{length, length-set}
+use Rattle.lines.specs.Lines.{decimal}
 use Rattle.lines.proofs.Written.{behind, last-byte, over-size, line-length}
 use borrow.Author.Needs.{needs}
 use Rattle.lines.proofs.inner.put_line.Statement.{statement}
