@@ -1,0 +1,4 @@
+pub mod Amounts
+pub mod Cases
+pub mod Sizes
+pub mod Stickers
