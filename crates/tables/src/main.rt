@@ -1,8 +1,11 @@
 // The ten tables. `tables` builds them, prints a line for each and checks them; `tables FILE` also writes them to FILE;
 // `tables check FILE` reads such a file and checks it.
-ghost use Prim.Native.Nat.{_≤_, _<_};
 use libc::STDOUT_FILENO;
 use std::num::wrapping_add_u64;
+use table_io::inner::good;
+use table_io::inner::none_refused;
+use table_io::inner::part_of;
+use table_io::inner::read_file;
 
 // Room for the block of move tables, and for that of pruning tables.
 fn moves_room() -> [u16; 891780] {
@@ -72,19 +75,6 @@ fn print_tables(moves: &[u16], prunes: &[u8]) {
     print_prunes(9, prunes, pruning_table::EP_E_AT, 967680);
 }
 
-// `refused` and the paper's number, in the low byte; after 13 the table and the entry, above it.
-fn print_refused(n: u64) {
-    io::write_all(STDOUT_FILENO, b"refused ");
-    io::print_decimal(STDOUT_FILENO, n % 256);
-    if n % 256 == 13 {
-        io::write_all(STDOUT_FILENO, b" table ");
-        io::print_decimal(STDOUT_FILENO, n / 256 % 256);
-        io::write_all(STDOUT_FILENO, b" entry ");
-        io::print_decimal(STDOUT_FILENO, n / 65536);
-    }
-    io::write_all(STDOUT_FILENO, b"\n");
-}
-
 // How many bytes a file of so many entries of 16 bits and so many bytes has; no memory holds as many as would wrap.
 fn print_written(entries: u64, bytes: u64) {
     io::write_all(STDOUT_FILENO, b"written ");
@@ -95,9 +85,7 @@ fn print_written(entries: u64, bytes: u64) {
 
 // Checks the tables, says what was found, and whether they are good.
 fn print_check(moves: &[u16], prunes: &[u8]) -> bool {
-    let n = table_calls::check_tables(moves, prunes);
-    if n != 0 {
-        print_refused(n);
+    if !good(moves, prunes) {
         return false;
     }
     io::write_all(STDOUT_FILENO, b"check good\n");
@@ -106,14 +94,7 @@ fn print_check(moves: &[u16], prunes: &[u8]) -> bool {
 
 // Builds the tables, prints their lines and checks them; whether they are good.
 fn build(moves: &mut [u16], prunes: &mut [u8]) -> bool {
-    let six = table_calls::get_move_tables(moves);
-    if six != 0 {
-        print_refused(six as u64);
-        return false;
-    }
-    let four = table_calls::get_prune_tables(moves, prunes);
-    if four != 0 {
-        print_refused(four as u64);
+    if !none_refused(table_io::build(moves, prunes) as u64) {
         return false;
     }
     print_tables(moves, prunes);
@@ -121,14 +102,6 @@ fn build(moves: &mut [u16], prunes: &mut [u8]) -> bool {
 }
 
 // ---- the file
-
-// How many entries the next part has: all that are left, or 32768.
-fn part_of(left: usize) -> usize
-    requires { ⌜ 0 < left ⌝ }
-    ensures { λ r. ⌜ (0 < r) × (r ≤ left) × (r ≤ 32768) ⌝ }
-{
-    if left < 32768 { left } else { 32768 }
-}
 
 // Writes up to 32768 entries.
 fn write_part(fd: i32, part: &[u16]) -> bool {
@@ -139,19 +112,6 @@ fn write_part(fd: i32, part: &[u16]) -> bool {
     let mut room = io::large_buffer();
     table_file::to_bytes(part, &mut room[..len]);
     io::write_all(fd, &room[..len])
-}
-
-// Reads up to 32768 entries; false where the file ends before.
-fn read_part(fd: i32, part: &mut [u16]) -> bool {
-    if 32768 < part.len() {
-        return false;
-    }
-    let len = 2 * part.len();
-    let mut room = io::large_buffer();
-    if io::read_full(fd, &mut room[..len]) != len {
-        return false;
-    }
-    table_file::from_bytes(&room[..len], part)
 }
 
 // Writes all entries, part by part.
@@ -165,31 +125,6 @@ fn write_moves(fd: i32, moves: &[u16]) -> bool {
         at += n;
     }
     true
-}
-
-// Reads all entries, part by part.
-fn read_moves(fd: i32, moves: &mut [u16]) -> bool {
-    let mut at = 0;
-    while at < moves.len() {
-        let n = part_of(moves.len() - at);
-        if !read_part(fd, &mut moves[at..at + n]) {
-            return false;
-        }
-        at += n;
-    }
-    true
-}
-
-// Reads both blocks; whether the file holds them and nothing more.
-fn read_blocks(fd: i32, moves: &mut [u16], prunes: &mut [u8]) -> bool {
-    if !read_moves(fd, moves) {
-        return false;
-    }
-    if io::read_full(fd, prunes) != prunes.len() {
-        return false;
-    }
-    let mut more = [0u8; 1];
-    io::read_full(fd, &mut more) == 0
 }
 
 // Writes both blocks and says how many bytes they are, or says that the file can't be written.
@@ -218,17 +153,8 @@ fn write_file(path: &[u8], moves: &[u16], prunes: &[u8]) {
 
 // Reads a file and checks it; one of another size is refused with 10.
 fn check_file(path: &[u8], moves: &mut [u16], prunes: &mut [u8]) {
-    let fd = os::open_read(path);
-    if fd < 0 {
-        os::fail(path);
-        return;
-    }
-    let whole = read_blocks(fd, moves, prunes);
-    libc::close(fd);
-    if whole {
+    if read_file(path, moves, prunes) {
         print_check(moves, prunes);
-    } else {
-        print_refused(10);
     }
 }
 

@@ -1,7 +1,7 @@
 -- `tables::write_part` is safe. Assumes nothing.
 use denote.Ref.{now}
 use lib.ListN.{length}
-use Rattle.tables.proofs.Room.{front, room-kept, front-kept}
+use Rattle.table_io.proofs.Room.{front, room-kept, front-kept}
 use borrow.Author.Needs.{needs}
 use Rattle.tables.proofs.write_part.Statement.{statement}
 use Rattle.tables.proofs.write_part.Tie as tie

@@ -1,10 +1,10 @@
--- `tables::read_part` is safe. Assumes nothing.
+-- `table_io::inner::read_part` is safe. Assumes nothing.
 use denote.Ref.{now}
 use lib.ListN.{length}
-use Rattle.tables.proofs.Room.{front, room-kept, front-kept}
+use Rattle.table_io.proofs.Room.{front, room-kept, front-kept}
 use borrow.Author.Needs.{needs}
-use Rattle.tables.proofs.read_part.Statement.{statement}
-use Rattle.tables.proofs.read_part.Tie as tie
+use Rattle.table_io.proofs.inner.read_part.Statement.{statement}
+use Rattle.table_io.proofs.inner.read_part.Tie as tie
 
 returns : tie.Need-returns
 returns c = search needs

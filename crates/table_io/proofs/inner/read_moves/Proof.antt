@@ -1,10 +1,10 @@
--- `tables::read_moves` is safe and ends: each part lies within the entries that are left. Assumes nothing.
+-- `table_io::inner::read_moves` is safe and ends: each part lies within the entries that are left. Assumes nothing.
 use mathlib.Core.Path.{_≡_}
 use Prim.Native.Nat.{_-_, _≤_}
 use lib.ListN.{length}
 use borrow.Author.Needs.{needs}
-use Rattle.tables.proofs.read_moves.Statement.{statement}
-use Rattle.tables.proofs.read_moves.Tie as tie
+use Rattle.table_io.proofs.inner.read_moves.Statement.{statement}
+use Rattle.table_io.proofs.inner.read_moves.Tie as tie
 
 abbrev Inv-loop : tie.InvT-loop
 Inv-loop fd moves₀ at₀ moves at = (at ≤ length moves) × (length moves ≡ length moves₀)
