@@ -5,9 +5,8 @@
  * Every function returns a refusal's number, 0 for none (TSUNGHAWI_REFUSED_..); tsunghawi_check_tables and tsunghawi_solve return it in the
  * low byte of a word. A function that refuses writes nothing, but for 14, which leaves the table that it could not finish.
  *
- * Lent memory is a pointer and a length, counted in elements. Its caller answers for three things: the pointer has so many elements, they
- * hold values (what is only written may hold anything, but must be set once), and what is written overlaps nothing else that is lent to the
- * same call. A length that isn't the one asked for is refused with 10 before all else, but for the limit of a search (9) and for text (7).
+ * Lent memory is a pointer and a length, counted in elements. Its caller answers for three things: so many elements are there, they have been
+ * set, and what a call may write overlaps nothing else that is lent to it. A length that isn't the one asked for is refused with 10 before all else, but for the limit of a search (9) and for text (7).
  *
  * A cube is 40 bytes: 8 corners, their 8 twists, 12 edges, their 12 flips, by place. A cube is in range if its corners are below 8 (else 4),
  * its edges below 12 (else 5), its twists below 3 and its flips below 2 (else 6). Moves are numbered
@@ -97,13 +96,13 @@ uint8_t tsunghawi_counts(const uint8_t *cube, size_t cube_len, uint8_t *out, siz
 /* The move that takes m back. */
 uint8_t tsunghawi_get_inverse(uint8_t m, uint8_t *out, size_t out_len);
 
-/* Whether the two take each other back: 1 or 0. */
+/* Whether the two turn opposite layers, the first of them U, R or F: 1 or 0. The name is kewb's. */
 uint8_t tsunghawi_is_inverse(uint8_t m, uint8_t other, uint8_t *out, size_t out_len);
 
 /* Whether the two turn one layer: 1 or 0. */
 uint8_t tsunghawi_is_same_layer(uint8_t m, uint8_t other, uint8_t *out, size_t out_len);
 
-/* Whether current may follow prev in a search: 1 or 0. */
+/* Whether current may follow prev in a search: 1 or 0. After a move its own layer may not, nor U after D, R after L, F after B. */
 uint8_t tsunghawi_is_move_available(uint8_t prev, uint8_t current, uint8_t *out, size_t out_len);
 
 /* ---- stickers, as letters, with no closing 0 */

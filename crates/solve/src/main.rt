@@ -1,6 +1,6 @@
 // Turns that solve a cube. `solve` builds the ten tables, `solve FILE` reads them from FILE, as `tables` writes it; both check them. Then
-// standard input is read: a line of 54 stickers and, if wanted, a line with the limit and one with the budget. `solve net` takes the same
-// and needs no tables. What is printed is that of `solution::solution` and `solution::net`.
+// standard input is read: a line of 54 stickers and, if wanted, a line with the limit and one with the budget. `solve net` reads standard
+// input too, and needs no tables. What is printed is that of `solution::solution` and `solution::net`.
 use libc::STDIN_FILENO;
 use libc::STDOUT_FILENO;
 use solution::Printed;
