@@ -3,6 +3,7 @@
 mod clock;
 mod cubes;
 mod product;
+mod program;
 mod search;
 mod tables;
 
@@ -29,6 +30,20 @@ impl Row {
     }
 }
 
+/// How long something takes that a person waits for, and the longest that is allowed: no run may take longer.
+pub struct Wait {
+    pub what: &'static str,
+    pub times: Spread,
+    pub bar: f64,
+}
+
+impl Wait {
+    fn print(&self) {
+        let Spread { least, median, most } = self.times;
+        println!("{:42} {:>24} {:>24} {:>7} {:>6.0}", self.what, "", format!("{median:.1} ({least:.1} .. {most:.1})"), "", self.bar);
+    }
+}
+
 fn main() -> ExitCode {
     let rounds = match std::env::args().nth(1).map(|n| n.parse()) {
         None => 5,
@@ -41,6 +56,9 @@ fn main() -> ExitCode {
     println!("processor time, median (least .. most) of {rounds} rounds, kewb and the product in turn");
     println!("{:42} {:>24} {:>24} {:>7} {:>6}", "", "kewb", "product", "share", "bar");
     let rows: Vec<Row> = [tables::measure, search::measure].into_iter().flat_map(|measure| measure(rounds)).collect();
+    let waits = program::measure(rounds);
     rows.iter().for_each(Row::print);
-    ExitCode::from(u8::from(rows.iter().any(|row| row.share() > row.bar)))
+    waits.iter().for_each(Wait::print);
+    let missed = rows.iter().any(|row| row.share() > row.bar) || waits.iter().any(|wait| wait.times.most > wait.bar);
+    ExitCode::from(u8::from(missed))
 }
