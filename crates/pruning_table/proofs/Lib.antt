@@ -2,8 +2,8 @@ pub mod Bfs
 pub mod Cuts
 pub mod Filling
 pub mod Four
+pub mod Held
 pub mod Laws
-pub mod PairRule
 pub mod Parts
 pub mod Steps
 pub mod Ten

@@ -10,18 +10,11 @@ use Rattle.pruning_table.specs.Pairs.{next, held, Least, Known}
 use Rattle.pruning_table.specs.Tables.{Counts, TableSizes, Ready}
 use Rattle.pruning_table.specs.declared.Built.{Built}
 use Rattle.pruning_table.specs.declared.Built.the-variants.{Done, Length, Entry, Unreached}
-use Rattle.pruning_table.specs.declared.Rule.{Rule}
-use Rattle.pruning_table.specs.declared.Rule.the-variants.{Holds, Fails}
 
 -- a bool that is the answer to the question whether P holds
 abbrev pub Decides : Type 0 → Bool → Type 0
 Decides P true = P
 Decides P false = P → ⊥
-
--- "the lowest bad .. entry": P holds at every number below n, or p is the lowest at which it fails
-abbrev pub Tells : (ℕ → Type 0) → ℕ → Rule → Type 0
-Tells P n Holds = (p : ℕ) → p < n → P p
-Tells P n (Fails p) = (p < n) × ((q : ℕ) → q < p → P q) × (P p → ⊥)
 
 -- "some pair has none of at most 254": some entry of a table is 255
 abbrev pub Unreached255 : List ℕ → Type 0

@@ -1,13 +1,11 @@
--- The check of all ten tables: where each stands in its block, what is right at an entry, and what the check answers.
+-- The ten tables: where each stands in its block, and what it is that all ten are true.
 -- Assumes nothing: these are definitions.
 use mathlib.Core.Path.{_≡_}
 use mathlib.Core.List.{List, [], _∷_}
 use Prim.Native.Nat.{ℕ, _*_, _≤_, _<_}
 use lib.ListN.{length, getD, take, drop}
 use Rattle.move_table.specs.Tables.{tableAt, columns, size, trueTable}
-use Rattle.pruning_table.specs.Pairs.{next, held, IsTrue, Fine}
-use Rattle.pruning_table.specs.declared.Checked.{Checked}
-use Rattle.pruning_table.specs.declared.Checked.the-variants as checked
+use Rattle.pruning_table.specs.Pairs.{next, held, IsTrue}
 
 -- ---- the layout: "Flat, row after row, in lent memory, in this order"
 
@@ -41,43 +39,14 @@ part t block = take (entries t) (drop (beginsAt t) block)
 abbrev pub stepOf : ℕ → List ℕ → ℕ → ℕ → ℕ
 stepOf t moves = next (part (firstOf t) moves) (part (secondOf t) moves) (rows (secondOf t)) (columns (tableAt (firstOf t)))
 
--- ---- what is right at entry e of table t
-
--- "For a move table, bad means not true."
-abbrev pub MoveFine : List ℕ → ℕ → ℕ → Type 0
-MoveFine moves t e = getD (part t moves) e 0 ≡ getD (trueTable (tableAt t)) e 0
-
--- "For a pruning table .. 0,0 must hold 0; any other entry v must be at least 1, have no neighbour below v - 1 and have one that holds v - 1."
-abbrev pub PruneFine : List ℕ → List ℕ → ℕ → ℕ → Type 0
-PruneFine moves prunes t e = Fine (stepOf t moves) (columns (tableAt (firstOf t))) (held (part t prunes)) e
-
-pub record FineAt (moves prunes : List ℕ) (t e : ℕ) : Type 0 where
-  pub move : t < 6 → MoveFine moves t e
-  pub prune : 6 ≤ t → PruneFine moves prunes t e
-
--- ---- the answer
+-- ---- lengths
 
 -- "lent slice of the wrong length": the two blocks of 891,780 and 4,031,685 entries
 pub record Blocks (moves prunes : List ℕ) : Type 0 where
   pub six : length moves ≡ 891780
   pub four : length prunes ≡ 4031685
 
--- "Table check: 10, then 13", "with the lowest bad table and entry"
-abbrev pub Checks : List ℕ → List ℕ → Checked → Type 0
-Checks moves prunes checked.Length = Blocks moves prunes → ⊥
-Checks moves prunes checked.Good = Blocks moves prunes × ((t : ℕ) → t < 10 → (e : ℕ) → e < entries t → FineAt moves prunes t e)
-Checks moves prunes (checked.Bad t e) =
-    Blocks moves prunes × (t < 10) × (e < entries t)
-    × ((s : ℕ) → s < t → (d : ℕ) → d < entries s → FineAt moves prunes s d) × ((d : ℕ) → d < e → FineAt moves prunes t d)
-    × (FineAt moves prunes t e → ⊥)
-
--- the paper's number for each answer
-abbrev pub checkedNumber : Checked → ℕ
-checkedNumber checked.Good = 0
-checkedNumber checked.Length = 10
-checkedNumber (checked.Bad t e) = 13
-
--- ---- "passes exactly when all ten are true"
+-- ---- "all ten are true"
 
 -- "A pruning entry is true if it is the least number of the table's moves from 0,0 to that pair": by the true move tables
 pub record AllTrue (moves prunes : List ℕ) : Type 0 where

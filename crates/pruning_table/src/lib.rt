@@ -1,7 +1,6 @@
 // The pruning tables: kewb's src/two_phase/pruning.rs.
 ghost use Rattle.pruning_table.specs.Answers.{Outcome, AnyOutcome};
 ghost use Rattle.pruning_table.specs.Block.{AllOutcome};
-ghost use Rattle.pruning_table.specs.Check.{Checks};
 use move_table::MOVES_LEN;
 
 pub mod inner;
@@ -26,21 +25,6 @@ pub enum Built {
     Entry,
     // 14: some pair has no walk of at most 254 moves
     Unreached,
-}
-
-// Whether the rule of the table check holds at every pair, or the lowest pair at which it fails.
-pub enum Rule {
-    Holds,
-    Fails(usize),
-}
-
-// What the check of all ten tables answers.
-pub enum Checked {
-    Good,
-    // 10: a block has the wrong length
-    Length,
-    // 13: the lowest table that isn't true, and its lowest bad entry
-    Bad(u8, usize),
 }
 
 // A pruning table over two move tables of n1 and n2 rows and of k moves.
@@ -105,25 +89,4 @@ pub fn get_prune_tables(moves: &[u16], prunes: &mut [u8]) -> Built
         return Built::Unreached;
     }
     Built::Done
-}
-
-// The check of all ten tables: the lowest bad table, and its lowest bad entry.
-pub fn check_tables(moves: &[u16], prunes: &[u8]) -> Checked
-    ensures { λ r. ⌜ Checks (now (moves .entry)) (now (prunes .entry)) r ⌝ }
-{
-    if moves.len() != MOVES_LEN {
-        return Checked::Length;
-    }
-    if prunes.len() != PRUNES_LEN {
-        return Checked::Length;
-    }
-    let mut t: u8 = 0;
-    while t < 10 {
-        match inner::check_table(t, moves, prunes) {
-            Rule::Fails(e) => return Checked::Bad(t, e),
-            Rule::Holds => {}
-        }
-        t += 1;
-    }
-    Checked::Good
 }

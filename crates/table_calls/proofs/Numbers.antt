@@ -14,13 +14,15 @@ use Rattle.base.proofs.Tests.{both-true, left-false, right-false}
 use Rattle.move_table.specs.Layout.{moveBlock, built}
 use Rattle.move_table.specs.Tables.{tableAt, columns, size, trueTable}
 use Rattle.pruning_table.specs.Answers.{Outcome, numberOf}
-use Rattle.pruning_table.specs.Check.{Checks, checkedNumber, firstOf, secondOf, rows, entries}
+use Rattle.pruning_table.specs.Check.{firstOf, secondOf, rows, entries}
 use Rattle.pruning_table.specs.declared.Built.{Built}
-use Rattle.pruning_table.specs.declared.Checked.{Checked}
-use Rattle.pruning_table.specs.declared.Checked.the-variants as checked
 use Rattle.pruning_table.proofs.Four.{all-outcome-one}
 use Rattle.pruning_table.proofs.Laws.{outcome-one, any-outcome-one}
-use Rattle.pruning_table.proofs.Ten.{checks-one, move-within, prune-within}
+use Rattle.pruning_table.proofs.Ten.{move-within, prune-within}
+use Rattle.table_check.specs.Check.{Checks, checkedNumber}
+use Rattle.table_check.specs.declared.Checked.{Checked}
+use Rattle.table_check.specs.declared.Checked.the-variants as checked
+use Rattle.table_check.proofs.Ten.{checks-one}
 use Rattle.table_calls.specs.Calls.{fits, tableNumber, tableLeft, blockNumber, blockLeft, PruneCall, PairsCall, PrunesCall, packed, CheckCall}
 
 -- ---- move tables

@@ -11,10 +11,11 @@ use Rattle.move_table.specs.Layout.{moveBlock}
 use Rattle.move_table.specs.Tables.{tableAt, columns, size, trueTable}
 use Rattle.pruning_table.specs.Answers.{Outcome, AnyOutcome, numberOf}
 use Rattle.pruning_table.specs.Block.{AllOutcome}
-use Rattle.pruning_table.specs.Check.{Checks, firstOf, secondOf, rows}
+use Rattle.pruning_table.specs.Check.{firstOf, secondOf, rows}
 use Rattle.pruning_table.specs.declared.Built.{Built}
-use Rattle.pruning_table.specs.declared.Checked.{Checked}
-use Rattle.pruning_table.specs.declared.Checked.the-variants as checked
+use Rattle.table_check.specs.Check.{Checks}
+use Rattle.table_check.specs.declared.Checked.{Checked}
+use Rattle.table_check.specs.declared.Checked.the-variants as checked
 
 -- ---- move tables: 0 where the lent slice is of the right length, else "lent slice of the wrong length", 10
 

@@ -4,7 +4,7 @@ ghost use Rattle.pruning_table.specs.Answers.{numberOf};
 ghost use Rattle.table_calls.specs.Calls.{tableNumber, tableLeft, blockNumber, blockLeft, PruneCall, PairsCall, PrunesCall, CheckCall};
 use move_table::MOVES_LEN;
 use pruning_table::Built;
-use pruning_table::Checked;
+use table_check::Checked;
 
 // Move table t, 0 to 5. A number above 5 is no move table's, so that no length fits.
 pub fn get_move_table(t: u8, table: &mut [u16]) -> u8
@@ -83,7 +83,7 @@ pub fn get_prune_tables(moves: &[u16], prunes: &mut [u8]) -> u8
 pub fn check_tables(moves: &[u16], prunes: &[u8]) -> u64
     ensures { λ r. ⌜ CheckCall (now (moves .entry)) (now (prunes .entry)) r ⌝ }
 {
-    let checked = pruning_table::check_tables(moves, prunes);
+    let checked = table_check::check_tables(moves, prunes);
     match checked {
         Checked::Good => 0,
         Checked::Length => 10,

@@ -2,7 +2,7 @@
 use mathlib.Core.Path.{sym, ap, subst}
 use native.Mathlib.Omega.{arith}
 use denote.Ref.{now}
-use Rattle.pruning_table.specs.Check.{Checks}
+use Rattle.table_check.specs.Check.{Checks}
 use Rattle.table_calls.specs.Calls.{packed}
 use Rattle.table_calls.proofs.Numbers.{few-entries}
 use borrow.Author.Needs.{needs}

@@ -9,7 +9,7 @@ use lib.ListN.{length, length-set, getD}
 use Rattle.pruning_table.specs.Pairs.{next, held}
 use Rattle.pruning_table.specs.Answers.{Expanded}
 use Rattle.pruning_table.proofs.Steps.{in-row, row-lt, col-lt, ready-closed}
-use Rattle.pruning_table.proofs.PairRule.{held-in}
+use Rattle.pruning_table.proofs.Held.{held-in}
 use Rattle.pruning_table.proofs.Bfs.{expanded-none, expanded-keep, expanded-set}
 use Rattle.pruning_table.proofs.inner.expand.Statement.{statement}
 use Rattle.pruning_table.proofs.inner.expand.Tie as tie

@@ -10,7 +10,7 @@ use lib.ListN.{length, length-set}
 use Rattle.pruning_table.specs.Pairs.{next}
 use Rattle.pruning_table.specs.Tables.{TableSizes, Ready}
 use Rattle.pruning_table.proofs.Steps.{ready-kept, ready-pos}
-use Rattle.pruning_table.proofs.PairRule.{yes-of, no-of}
+use Rattle.pruning_table.proofs.Held.{yes-of, no-of}
 use Rattle.pruning_table.proofs.Bfs.{layer-first, last-unreached, last-done}
 use Rattle.pruning_table.proofs.inner.get_prune_table.Statement.{statement}
 use Rattle.pruning_table.proofs.inner.get_prune_table.Tie as tie

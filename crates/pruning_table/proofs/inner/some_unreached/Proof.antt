@@ -7,7 +7,7 @@ use denote.Ref.{now}
 use mathlib.Core.Path.{_≡_, sym, _∙_}
 use lib.ListN.{length}
 use Rattle.pruning_table.specs.Pairs.{held}
-use Rattle.pruning_table.proofs.PairRule.{held-in}
+use Rattle.pruning_table.proofs.Held.{held-in}
 use Rattle.pruning_table.proofs.inner.some_unreached.Statement.{statement}
 use Rattle.pruning_table.proofs.inner.some_unreached.Tie as tie
 

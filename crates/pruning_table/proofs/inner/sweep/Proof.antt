@@ -11,7 +11,7 @@ use lib.Dec.{T}
 use lib.ListN.{length}
 use Rattle.pruning_table.specs.Pairs.{next, held}
 use Rattle.pruning_table.proofs.Steps.{ready-kept, ready-closed, ready-pos}
-use Rattle.pruning_table.proofs.PairRule.{held-in}
+use Rattle.pruning_table.proofs.Held.{held-in}
 use Rattle.pruning_table.proofs.Bfs.{Swept, swept-none, swept-skip, swept-expand, swept-all}
 use Rattle.pruning_table.proofs.inner.sweep.Statement.{statement}
 use Rattle.pruning_table.proofs.inner.sweep.Tie as tie

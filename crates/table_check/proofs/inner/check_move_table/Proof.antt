@@ -1,20 +1,21 @@
--- `pruning_table::inner::check_move_table` meets its contract. Assumes nothing.
+-- `table_check::inner::check_move_table` meets its contract. Assumes nothing.
 use mathlib.Core.Path.{ap, _∙_}
 use Prim.Native.Nat.{_*_}
 use native.Mathlib.Omega.{arith}
 use denote.Ref.{now}
 use lib.ListN.{length}
 use Rattle.move_table.specs.Tables.{tableAt, trueTable, firstOff}
-use Rattle.pruning_table.proofs.Parts.{slice-is, len-is, move-fails, move-holds}
+use Rattle.pruning_table.proofs.Parts.{slice-is, len-is}
+use Rattle.table_check.proofs.Parts.{move-fails, move-holds}
 use Rattle.pruning_table.proofs.Ten.{move-within, move-entries, part-length}
 use borrow.Author.Needs.{needs}
 use borrow.Author.Needs.{needs}
-use Rattle.pruning_table.proofs.inner.check_move_table.Statement.{statement}
-use Rattle.pruning_table.proofs.inner.check_move_table.Tie as tie
+use Rattle.table_check.proofs.inner.check_move_table.Statement.{statement}
+use Rattle.table_check.proofs.inner.check_move_table.Tie as tie
 use Rattle.move_table.proofs.inner.columns_of.Reads as columns-of-reads
 use Rattle.move_table.proofs.inner.first_bad.Reads as first-bad-reads
 use Rattle.move_table.proofs.inner.rows_of.Reads as rows-of-reads
 use Rattle.pruning_table.proofs.inner.move_begins.Reads as move-begins-reads
 
 move-begins-requires : tie.Need-move-begins-requires
 move-begins-requires c κs = search needs

@@ -1,11 +1,11 @@
--- `pruning_table::inner::held_at` meets its contract. Assumes nothing.
+-- `table_check::inner::held_at` meets its contract. Assumes nothing.
 use mathlib.Core.Path.{sym}
 use borrow.Author.Needs.{needs}
 use denote.Ref.{now}
 use lib.ListN.{List·getD-eq-default}
-use Rattle.pruning_table.proofs.PairRule.{held-in}
-use Rattle.pruning_table.proofs.inner.held_at.Statement.{statement}
-use Rattle.pruning_table.proofs.inner.held_at.Tie as tie
+use Rattle.pruning_table.proofs.Held.{held-in}
+use Rattle.table_check.proofs.inner.held_at.Statement.{statement}
+use Rattle.table_check.proofs.inner.held_at.Tie as tie
 
 shared-slice-read-result : tie.Need-shared-slice-read-result
 shared-slice-read-result c = search needs

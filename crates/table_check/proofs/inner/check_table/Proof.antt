@@ -1,12 +1,12 @@
--- `pruning_table::inner::check_table` meets its contract. Assumes nothing.
+-- `table_check::inner::check_table` meets its contract. Assumes nothing.
 use denote.Ref.{now}
-use Rattle.pruning_table.proofs.Parts.{move-rule, prune-rule}
+use Rattle.table_check.proofs.Parts.{move-rule, prune-rule}
 use borrow.Author.Needs.{needs}
 use borrow.Author.Needs.{needs}
-use Rattle.pruning_table.proofs.inner.check_table.Statement.{statement}
-use Rattle.pruning_table.proofs.inner.check_table.Tie as tie
-use Rattle.pruning_table.proofs.inner.check_move_table.Reads as check-move-table-reads
-use Rattle.pruning_table.proofs.inner.check_prune_table.Reads as check-prune-table-reads
+use Rattle.table_check.proofs.inner.check_table.Statement.{statement}
+use Rattle.table_check.proofs.inner.check_table.Tie as tie
+use Rattle.table_check.proofs.inner.check_move_table.Reads as check-move-table-reads
+use Rattle.table_check.proofs.inner.check_prune_table.Reads as check-prune-table-reads
 
 check-move-table-requires : tie.Need-check-move-table-requires
 check-move-table-requires c κs = search needs

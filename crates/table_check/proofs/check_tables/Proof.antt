@@ -1,17 +1,18 @@
--- `pruning_table::check_tables` meets its contract. The loop's invariant: all tables before t are right. Assumes nothing.
+-- `table_check::check_tables` meets its contract. The loop's invariant: all tables before t are right. Assumes nothing.
 use mathlib.Core.Path.{subst}
 use Prim.Native.Nat.{_≤_, _-_}
 use native.Mathlib.Omega.{arith}
 use denote.Ref.{now}
-use Rattle.pruning_table.specs.Answers.{Tells}
-use Rattle.pruning_table.specs.Check.{FineAt, entries}
-use Rattle.pruning_table.specs.declared.Rule.{Rule}
-use Rattle.pruning_table.specs.declared.Rule.the-variants.{Holds, Fails}
-use Rattle.pruning_table.proofs.Parts.{Before, before-none, before-more}
+use Rattle.table_check.specs.Check.{Tells}
+use Rattle.pruning_table.specs.Check.{entries}
+use Rattle.table_check.specs.Check.{FineAt}
+use Rattle.table_check.specs.declared.Rule.{Rule}
+use Rattle.table_check.specs.declared.Rule.the-variants.{Holds, Fails}
+use Rattle.table_check.proofs.Parts.{Before, before-none, before-more}
 use borrow.Author.Needs.{needs}
-use Rattle.pruning_table.proofs.check_tables.Statement.{statement}
-use Rattle.pruning_table.proofs.check_tables.Tie as tie
-use Rattle.pruning_table.proofs.inner.check_table.Reads as check-table-reads
+use Rattle.table_check.proofs.check_tables.Statement.{statement}
+use Rattle.table_check.proofs.check_tables.Tie as tie
+use Rattle.table_check.proofs.inner.check_table.Reads as check-table-reads
 
 abbrev Inv-loop : tie.InvT-loop
 Inv-loop moves prunes t₀ t = (t ≤ 10) × Before moves prunes t

@@ -1,35 +1,15 @@
--- What a table holds, and the rule of the check at one pair. Assumes nothing.
-use mathlib.Core.Path.{_≡_, refl, sym, subst, _∙_}
+-- The rule of the check at one pair. Assumes nothing.
+use mathlib.Core.Path.{_≡_, refl, sym, _∙_}
 use mathlib.Core.Bool.{Bool, true, false}
-use mathlib.Core.List.{List, [], _∷_}
 use Prim.Native.Nat.{ℕ, zero, suc, _+_, _-_, _≤_, _<_}
-use native.Mathlib.Nat.{not-suc-le-zero, le-of-suc-le-suc, suc-ne-zero}
+use native.Mathlib.Nat.{not-suc-le-zero, suc-ne-zero}
 use native.Mathlib.Omega.{arith}
-use lib.Dec.{T, eqb}
-use lib.ListN.{length, getD}
+use lib.Dec.{eqb}
 use borrow.Author.Tests.{eqb-true, eqb-false}
 use borrow.Author.Count.{below-more}
-use Rattle.pruning_table.specs.Pairs.{held, Between, Fine}
 use Rattle.pruning_table.specs.Answers.{Decides}
-
--- within a table, what a read gives is what the table holds
-pub held-in : (l : List ℕ) (q a : ℕ) → q < length l → getD l q a ≡ held l q
-held-in [] q a h = absurd (not-suc-le-zero h)
-held-in (x ∷ xs) zero a h = refl
-held-in (x ∷ xs) (suc q) a h = held-in xs q a (le-of-suc-le-suc h)
-
--- a bool that decides P, made and taken apart
-pub decides : {P : Type 0} (b : Bool) → (b ≡ true → P) → (b ≡ false → P → ⊥) → Decides P b
-decides true yes′ no′ = yes′ refl
-decides false yes′ no′ = no′ refl
-
-pub yes-of : {P : Type 0} (b : Bool) → Decides P b → b ≡ true → P
-yes-of true d e = d
-yes-of false d e = let z : _≡_ {A = Bool} false true = e in absurd (subst T (sym z) tt)
-
-pub no-of : {P : Type 0} (b : Bool) → Decides P b → b ≡ false → P → ⊥
-no-of true d e p = subst T e tt
-no-of false d e p = d p
+use Rattle.pruning_table.specs.Pairs.{Between, Fine}
+use Rattle.pruning_table.proofs.Held.{decides}
 
 module _ (step : ℕ → ℕ → ℕ) (k : ℕ) (dist : ℕ → ℕ) where
   -- at pair 0

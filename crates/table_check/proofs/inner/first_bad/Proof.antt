@@ -1,14 +1,14 @@
--- `pruning_table::inner::first_bad` meets its contract. The loop's invariant: the rule holds at every pair passed. Assumes nothing.
+-- `table_check::inner::first_bad` meets its contract. The loop's invariant: the rule holds at every pair passed. Assumes nothing.
 use Prim.Native.Nat.{ℕ, _-_, _≤_, _<_}
 use native.Mathlib.Omega.{arith}
 use borrow.Author.Needs.{needs}
 use borrow.Author.Tests.{not-true, not-false}
 use borrow.Author.Count.{below-more, below-none}
 use lib.ListN.{length}
 use Rattle.pruning_table.specs.Pairs.{next, held, Fine}
-use Rattle.pruning_table.proofs.PairRule.{yes-of, no-of}
-use Rattle.pruning_table.proofs.inner.first_bad.Statement.{statement}
-use Rattle.pruning_table.proofs.inner.first_bad.Tie as tie
+use Rattle.pruning_table.proofs.Held.{yes-of, no-of}
+use Rattle.table_check.proofs.inner.first_bad.Statement.{statement}
+use Rattle.table_check.proofs.inner.first_bad.Tie as tie
 
 abbrev Inv-loop : tie.InvT-loop
 Inv-loop t1 t2 tab n1 n2 k p₀ p-end p = (p ≤ length tab) × ((q : ℕ) → q < p → Fine (next t1 t2 n2 k) k (held tab) q)

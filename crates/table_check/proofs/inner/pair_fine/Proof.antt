@@ -1,4 +1,4 @@
--- `pruning_table::inner::pair_fine` meets its contract.
+-- `table_check::inner::pair_fine` meets its contract.
 -- The loop's invariant: of the first m neighbours none is below v - 1, and `one` says whether one holds v - 1. Assumes nothing.
 use mathlib.Core.Path.{_≡_, ap, _∙_}
 use mathlib.Core.Logic.{⊎-elim}
@@ -7,11 +7,12 @@ use native.Mathlib.Omega.{arith}
 use borrow.Author.Needs.{needs}
 use denote.Ref.{now}
 use lib.ListN.{getD}
 use Rattle.pruning_table.specs.Pairs.{next, held}
 use Rattle.pruning_table.proofs.Steps.{in-row, row-lt, col-lt}
-use Rattle.pruning_table.proofs.PairRule.{held-in, Seen, seen-none, seen-one, seen-more, seen-all, fine-zero, fine-between}
-use Rattle.pruning_table.proofs.inner.pair_fine.Statement.{statement}
-use Rattle.pruning_table.proofs.inner.pair_fine.Tie as tie
+use Rattle.pruning_table.proofs.Held.{held-in}
+use Rattle.table_check.proofs.PairRule.{Seen, seen-none, seen-one, seen-more, seen-all, fine-zero, fine-between}
+use Rattle.table_check.proofs.inner.pair_fine.Statement.{statement}
+use Rattle.table_check.proofs.inner.pair_fine.Tie as tie
 
 abbrev Inv-loop : tie.InvT-loop
 Inv-loop t1 t2 tab n1 n2 k p v i j one₀ m₀ one m = (m ≤ k) × Seen (next t1 t2 n2 k) k (held tab) p m one

@@ -1,19 +1,20 @@
--- `pruning_table::inner::check_prune_table` meets its contract. Assumes nothing.
+-- `table_check::inner::check_prune_table` meets its contract. Assumes nothing.
 use native.Mathlib.Omega.{arith}
 use denote.Ref.{now}
-use Rattle.pruning_table.proofs.Parts.{Spot, spot-end1, spot-end2, spot-end, spot-counts, spot-sizes, spot-tells}
+use Rattle.pruning_table.proofs.Parts.{Spot, spot-end1, spot-end2, spot-end, spot-counts, spot-sizes}
+use Rattle.table_check.proofs.Parts.{spot-tells}
 use Rattle.pruning_table.proofs.Ten.{firsts, seconds}
 use borrow.Author.Needs.{needs}
 use borrow.Author.Needs.{needs}
-use Rattle.pruning_table.proofs.inner.check_prune_table.Statement.{statement}
-use Rattle.pruning_table.proofs.inner.check_prune_table.Tie as tie
+use Rattle.table_check.proofs.inner.check_prune_table.Statement.{statement}
+use Rattle.table_check.proofs.inner.check_prune_table.Tie as tie
 use Rattle.move_table.proofs.inner.columns_of.Reads as columns-of-reads
 use Rattle.move_table.proofs.inner.rows_of.Reads as rows-of-reads
-use Rattle.pruning_table.proofs.inner.first_bad.Reads as first-bad-reads
+use Rattle.table_check.proofs.inner.first_bad.Reads as first-bad-reads
 use Rattle.pruning_table.proofs.inner.first_of.Reads as first-of-reads
 use Rattle.pruning_table.proofs.inner.move_begins.Reads as move-begins-reads
 use Rattle.pruning_table.proofs.inner.prune_begins.Reads as prune-begins-reads
 use Rattle.pruning_table.proofs.inner.second_of.Reads as second-of-reads
 
 first-of-requires : tie.Need-first-of-requires
 first-of-requires c κs = search needs

@@ -1,0 +1,4 @@
+pub mod Laws
+pub mod PairRule
+pub mod Parts
+pub mod Ten
