@@ -1,4 +1,5 @@
 pub mod Answers
+pub mod Counts
 pub mod Over
 pub mod Text
 pub mod Words

@@ -1,14 +1,13 @@
 -- Which text is printed, by cases. Assumes nothing.
-use mathlib.Core.Path.{_≡_, sym, ap, _∙_}
-use mathlib.Core.Bool.{Bool, true, false}
+use mathlib.Core.Path.{_≡_}
+use mathlib.Core.Bool.{true, false}
 use mathlib.Core.List.{List}
-use Prim.Native.Nat.{ℕ, _+_, _-_, _≤_, _<_}
+use Prim.Native.Nat.{ℕ, _+_, _≤_, _<_}
 use native.Mathlib.Omega.{arith}
 use lib.Dec.{eqb}
-use lib.ListN.{length, take, drop, length-drop}
-use lib.Seq.{length-take-le}
+use lib.ListN.{length, length-drop}
 use borrow.Author.Tests.{eq-eqb, ne-eqb, le-leb, lt-leb}
-use Rattle.bytes.specs.Bytes.{slice, indexOf}
+use Rattle.bytes.specs.Bytes.{indexOf}
 use Rattle.cubie.specs.declared.CubieCube.{CubieCube}
 use Rattle.facelet.specs.Reader.{allColors, cubeRead, strictRefusal}
 use Rattle.lines.specs.Lines.{firstLine, afterLine, line, refusedWord}

@@ -1,13 +1,15 @@
 -- How long the texts are, and what they are made of. Assumes nothing.
-use mathlib.Core.Path.{_≡_, refl, sym, ap, _∙_}
+use mathlib.Core.Path.{_≡_, refl, sym, ap, ap₂, _∙_}
 use mathlib.Core.List.{List, [], _∷_, _++_, map, append-assoc}
-use Prim.Native.Nat.{ℕ, _+_, _*_, _≤_, _<_}
+use Prim.Native.Nat.{ℕ, _+_, _*_, _^_, _≤_, _<_}
 use native.Mathlib.Omega.{arith}
 use lib.ListN.{length, replicate, length-append}
 use Rattle.lines.specs.Lines.{decimal, line, refusedWord, movesWord, strokesWord}
 use Rattle.lines.proofs.Written.{digits-le, line-length}
 use Rattle.scramble.specs.Answers.{over}
+use Rattle.scramble.specs.Strokes.{strokesOf}
 use Rattle.scramble.specs.Text.{wordOf, spaced}
+use Rattle.scramble.proofs.Counts.{strokes-append, strokes-le}
 use Rattle.scramble.proofs.Words.{word-short}
 use Rattle.solver.specs.Solve.{firstList, secondList}
 use Rattle.solver.specs.declared.Found.the-variants as found
@@ -15,9 +17,13 @@ use Rattle.solver.specs.declared.Solution.{Solution}
 use Rattle.solution.specs.declared.Printed.{Printed}
 use Rattle.solution.specs.Text.{noneLine, spentLine, foundText, answerText, printedAs, solutionWord, phase1Word, phase2Word, entriesWord, turnsLine, countLines, solvedText}
 
+-- a number of j + 1 digits in a line
+line-le : (j : ℕ) (w : List ℕ) (m : ℕ) → m < 10 * 10 ^ j → length (line w m) ≤ length w + j + 2
+line-le j w m h = omega (arith, line-length w (decimal m), digits-le j 20 m h)
+
 -- a number below 1,000 in a line
 pub refused-le : (n : ℕ) → n < 1000 → length (line refusedWord n) ≤ 12
-refused-le n h = omega (arith, line-length refusedWord (decimal n), digits-le 2 20 n h)
+refused-le n h = line-le 2 refusedWord n h
 
 -- ---- the line of the turns
 
@@ -45,36 +51,32 @@ turns-length one two = omega (arith, ap length (turns-are one two), length-appen
 
 -- ---- the lines of the numbers
 
--- the five lines, with n moves in both lists
-abbrev pub linesOf : ℕ → ℕ → ℕ → ℕ → List ℕ
-linesOf a b n count = line phase1Word a ++ (line phase2Word b ++ (line movesWord n ++ (line strokesWord n ++ line entriesWord count)))
+-- the five lines, with n moves in both lists and k strokes
+abbrev pub linesOf : ℕ → ℕ → ℕ → ℕ → ℕ → List ℕ
+linesOf a b n k count = line phase1Word a ++ (line phase2Word b ++ (line movesWord n ++ (line strokesWord k ++ line entriesWord count)))
 
-pub counts-are : (one two : List ℕ) (count : ℕ) → countLines one two count ≡ linesOf (length one) (length two) (length one + length two) count
+pub counts-are : (one two : List ℕ) (count : ℕ) → countLines one two count ≡ linesOf (length one) (length two) (length one + length two) (strokesOf one + strokesOf two) count
 unfolding countLines
-counts-are one two count = ap (λ (n : ℕ). linesOf (length one) (length two) n count) (length-append one two)
+counts-are one two count = ap₂ (λ (n k : ℕ). linesOf (length one) (length two) n k count) (length-append one two) (strokes-append one two)
 
-pub counts-length : (one two : List ℕ) (count : ℕ) → length (countLines one two count) ≡ length (line phase1Word (length one)) + length (line phase2Word (length two)) + length (line movesWord (length one + length two)) + length (line strokesWord (length one + length two)) + length (line entriesWord count)
+pub counts-length : (one two : List ℕ) (count : ℕ) → length (countLines one two count) ≡ length (line phase1Word (length one)) + length (line phase2Word (length two)) + length (line movesWord (length one + length two)) + length (line strokesWord (strokesOf one + strokesOf two)) + length (line entriesWord count)
 counts-length one two count =
     let a = line phase1Word (length one) in
     let b = line phase2Word (length two) in
     let c = line movesWord (length one + length two) in
-    let d = line strokesWord (length one + length two) in
+    let d = line strokesWord (strokesOf one + strokesOf two) in
     let e = line entriesWord count in
     omega (arith, ap length (counts-are one two count), length-append a (b ++ (c ++ (d ++ e))), length-append b (c ++ (d ++ e)), length-append c (d ++ e), length-append d e)
 
 -- all of it fits 256 bytes
-pub solved-le : (one two : List ℕ) (count : ℕ) → length one ≤ 31 → length two ≤ 31 → count < 4294967296 → length (turnsLine one two) + length (countLines one two count) ≤ 254
+pub solved-le : (one two : List ℕ) (count : ℕ) → length one ≤ 31 → length two ≤ 31 → count < 4294967296 → length (turnsLine one two) + length (countLines one two count) ≤ 255
 solved-le one two count h k l =
-    let n = length one + length two in
-    let a = two-digits phase1Word (length one) (omega (arith, h)) in
-    let b = two-digits phase2Word (length two) (omega (arith, k)) in
-    let c = two-digits movesWord n (omega (arith, h, k)) in
-    let d = two-digits strokesWord n (omega (arith, h, k)) in
-    let f : length (line entriesWord count) ≤ 19 = omega (arith, line-length entriesWord (decimal count), digits-le 9 20 count (omega (arith, l))) in
-    omega (arith, counts-length one two count, a, b, c, d, f, turns-length one two, words-le one, words-le two, h, k)
-  where
-    two-digits : (w : List ℕ) (m : ℕ) → m < 100 → length (line w m) ≤ length w + 3
-    two-digits w m u = omega (arith, line-length w (decimal m), digits-le 1 20 m u)
+    let a = line-le 1 phase1Word (length one) (omega (arith, h)) in
+    let b = line-le 1 phase2Word (length two) (omega (arith, k)) in
+    let c = line-le 1 movesWord (length one + length two) (omega (arith, h, k)) in
+    let d = line-le 2 strokesWord (strokesOf one + strokesOf two) (omega (arith, h, k, strokes-le one, strokes-le two)) in
+    let e = line-le 9 entriesWord count (omega (arith, l)) in
+    omega (arith, counts-length one two count, a, b, c, d, e, turns-length one two, words-le one, words-le two, h, k)
 
 pub solved-length : (one two : List ℕ) (count : ℕ) → length (solvedText one two count) ≡ length (turnsLine one two) + length (countLines one two count)
 solved-length one two count = length-append (turnsLine one two) (countLines one two count)

@@ -1,9 +1,9 @@
 -- The unfolded cube: its rows are what the bytes of one list show. Assumes nothing.
 use mathlib.Core.Path.{_≡_, refl, sym, ap, _∙_}
 use mathlib.Core.List.{List, [], _∷_, map}
-use Prim.Native.Nat.{ℕ, _+_, _-_, _≤_, _<_}
+use Prim.Native.Nat.{ℕ, _+_, _-_, _<_}
 use lib.Dec.{ltb}
-use lib.ListN.{length, getD, drop, set, replicate}
+use lib.ListN.{length, getD, drop, set}
 use Rattle.base.specs.Lists.{pick, Under}
 use Rattle.base.proofs.Steps.{next}
 use Rattle.base.proofs.Tests.{inRange-under}

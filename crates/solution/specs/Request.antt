@@ -51,7 +51,7 @@ budgetText cube limit t moves prunes =
     (pick (eqb (length (afterLine t)) 0) (answerText (solveOf cube limit (amountOf 1000000000 (firstLine t)) moves prunes)) badInputLine)
     badBudgetLine
 
--- decided: the second line is the limit, 23 if empty or missing; "a limit above 31", or no number, is 9
+-- decided: the second line is the limit, 23 if empty or missing; "limit above 31", or no number, is 9
 unfoldable pub limitText : CubieCube → List ℕ → List ℕ → List ℕ → List ℕ
 limitText cube t moves prunes =
     pick (leb (amountOf 23 (firstLine t)) 31) (budgetText cube (amountOf 23 (firstLine t)) (afterLine t) moves prunes) (line refusedWord 9)

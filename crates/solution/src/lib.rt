@@ -95,6 +95,7 @@ fn put_counts(one: &[u8], two: &[u8], count: u32, out: &mut [u8], at: usize) -> 
     ensures { λ r. ⌜ now (out .exit) ≡ over (now (out .entry)) at (countLines (now (one .entry)) (now (two .entry)) count) ⌝ }
 {
     let both = (one.len() + two.len()) as u64;
+    let strokes = (scramble::strokes(one) + scramble::strokes(two)) as u64;
     let word = PHASE1;
     let a = put_line(&word, one.len() as u64, out, at);
     let word = PHASE2;
@@ -102,7 +103,7 @@ fn put_counts(one: &[u8], two: &[u8], count: u32, out: &mut [u8], at: usize) -> 
     let word = MOVES;
     let c = put_line(&word, both, out, b);
     let word = STROKES;
-    let d = put_line(&word, both, out, c);
+    let d = put_line(&word, strokes, out, c);
     let word = ENTRIES;
     put_line(&word, count as u64, out, d)
 }
