@@ -103,26 +103,7 @@ number-lt (x ∷ xs) = digits-lt (suc-le-suc (below-le x xs)) (number-lt xs)
 
 -- ---- (5) the number depends on the order of the elements alone
 
-below-order : (a b : ℕ) (xs ys : List ℕ) → length xs ≡ length ys
-    → ((j : ℕ) → j < length xs → less (getD xs j 0) a ≡ less (getD ys j 0) b) → below a xs ≡ below b ys
-below-order a b [] [] l e = refl
-below-order a b [] (y ∷ ys) l e = absurd (suc-ne-zero (length ys) (sym l))
-below-order a b (x ∷ xs) [] l e = absurd (suc-ne-zero (length xs) l)
-below-order a b (x ∷ xs) (y ∷ ys) l e =
-    ap₂ _+_ (e 0 (zero-lt-suc (length xs))) (below-order a b xs ys (suc-inj l) (λ j h. e (suc j) (suc-le-suc h)))
-
-pub number-order : (xs ys : List ℕ) → length xs ≡ length ys
-    → ((i j : ℕ) → i < j → j < length xs → less (getD xs j 0) (getD xs i 0) ≡ less (getD ys j 0) (getD ys i 0)) → number xs ≡ number ys
-number-order [] [] l e = refl
-number-order [] (y ∷ ys) l e = absurd (suc-ne-zero (length ys) (sym l))
-number-order (x ∷ xs) [] l e = absurd (suc-ne-zero (length xs) l)
-number-order (x ∷ xs) (y ∷ ys) l e =
-    let b : below x xs ≡ below y ys = below-order x y xs ys (suc-inj l) (λ j h. e 0 (suc j) (zero-lt-suc j) (suc-le-suc h)) in
-    let r : number xs ≡ number ys = number-order xs ys (suc-inj l) (λ i j h k. e (suc i) (suc j) (suc-le-suc h) (suc-le-suc k)) in
-    let m : length xs ≡ length ys = suc-inj l in
-    cc
-
--- the same for a map that keeps the order
+-- a map that keeps the order
 abbrev pub Mono : (ℕ → ℕ) → Type 0
 Mono f = (x y : ℕ) → less (f x) (f y) ≡ less x y
 
@@ -176,10 +157,6 @@ pub perm-fills : {n : ℕ} {xs : List ℕ} → Perm n xs → Fills 0 n xs
 perm-fills {n} {xs} p d =
     let up : below n xs ≤ below (n - d + d) xs = below-mono (omega arith) xs in
     omega (arith, p .size, of-under n xs (p .small), below-le d xs, below-self xs (p .once) d, below-gap xs (p .once) d (n - d))
-
--- so each of 0 .. n - 1 stands in it exactly once
-pub perm-count : {n : ℕ} {xs : List ℕ} → Perm n xs → (a : ℕ) → a < n → count a xs ≡ 1
-perm-count {n} {xs} p a h = omega (arith, below-suc a xs, perm-fills p a, perm-fills p (suc a))
 
 -- ---- (2) the permutation of a number is one
 

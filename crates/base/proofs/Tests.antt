@@ -89,9 +89,6 @@ noRepeat-map f m [] = refl
 noRepeat-map f m (x ∷ xs) =
     ap₂ _&&_ (ap (λ (n : ℕ). eqb n 0) (total-map (same (f x)) f xs ∙ total-ext (m x) xs)) (noRepeat-map f m xs)
 
-pub tests-perm : {n : ℕ} {xs : List ℕ} → length xs ≡ n → inRange n xs ≡ true → noRepeat xs ≡ true → Perm n xs
-tests-perm {n} {xs} l r o = record { size = l; small = inRange-under n xs r; once = noRepeat-once xs o }
-
 pub sameList-is : (l k : List ℕ) → sameList l k ≡ true → l ≡ k
 unfolding sameList
 sameList-is [] [] e = refl

@@ -16,6 +16,7 @@ use Rattle.moves.specs.Moves.{isAvailable}
 use Rattle.phase2.specs.Rules.{Ans, solved, nothing, spent, refused, Shape, phase1, phase2, Turns, Fars, Coords, At, at, belowOf, endsOf, cutOf, goOf, moved, nextOf, payOf, rules}
 use Rattle.phase2.specs.Second.{coords2, finish2, run2}
 use Rattle.phase1.specs.First.{coords1, under, fullOf, finish1, tableSolve}
+use Rattle.solver.proofs.Cubes.{moves-append}
 use Rattle.demands.specs.Plain.{Position, from, isEnd1, isEnd2, plainOf, plain2, plainFinish, plainSearch}
 
 -- the search ended for want of budget
@@ -47,14 +48,9 @@ record Same (coords : CubieCube → Coords) (Dom : CubieCube → Type 0) (y₀ :
   list : x .list ≡ y .list
   made : y .cube ≡ applyMoves y₀ (y .list)
 
-pub moves-more : (y : CubieCube) (l k : List ℕ) → applyMoves y (l ++ k) ≡ applyMoves (applyMoves y l) k
-unfolding applyMoves
-moves-more y [] k = refl
-moves-more y (m ∷ l) k = moves-more (turn y m) l k
-
 pub move-more : (y : CubieCube) (l : List ℕ) (m : ℕ) → turn (applyMoves y l) m ≡ applyMoves y (l ++ (m ∷ []))
 unfolding applyMoves
-move-more y l m = sym (moves-more y l (m ∷ []))
+move-more y l m = sym (moves-append y l (m ∷ []))
 
 no-end : {L : Type 0} (sh : Shape) (isEnd : CubieCube → Bool) (finish : Position → Unit {0} → Res (Ans L) (Unit {0})) (d : ℕ) (y : Position) → NoPath sh isEnd d (y .cube) → NoEnd (plainOf sh isEnd finish) (λ j. j < sh .w) d y
 unfolding NoPath NoEnd

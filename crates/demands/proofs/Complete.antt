@@ -16,7 +16,8 @@ use Rattle.moves.specs.Moves.{isAvailable}
 use Rattle.phase2.specs.Rules.{Ans, solved, nothing, Shape, phase1, phase2}
 use Rattle.phase1.specs.First.{fullOf}
 use Rattle.demands.specs.Plain.{Position, from, isEnd1, isEnd2, plainOf, plain2, plainFinish, plain1, plainSearch}
-use Rattle.demands.proofs.Agreement.{moves-more, move-more}
+use Rattle.solver.proofs.Cubes.{moves-append}
+use Rattle.demands.proofs.Agreement.{move-more}
 use Rattle.demands.proofs.Canonical.{Fits, canonical}
 use Rattle.demands.proofs.Ends.{Good, Inside, good-turn, inside-turn, end1-inside, only-home, home-ends, column-back}
 use Rattle.demands.proofs.Lengths.{Grown, grown-none, grown-more, Short, short-grown, short-both, full-reached, full-not, Means, under-says, under-ended}
@@ -69,7 +70,7 @@ module _ (limit : ℕ) where
       (λ a. says (f (omega (arith, full-reached limit (length (t .list)) a, m .grown .size))))
       (under-says (Leads (t .cube) (limit - length (t .list))) (Both y) (λ l. (t .list, l)) (λ z. absurd z)
       (λ l h. record {
-        arrives = moves-more y (t .list) l ∙ ap (λ (z : CubieCube). applyMoves z l) (sym (m .cube)) ∙ h .arrives;
+        arrives = moves-append y (t .list) l ∙ ap (λ (z : CubieCube). applyMoves z l) (sym (m .cube)) ∙ h .arrives;
         short = short-both (m .grown) (h .short);
       })
       (deepen-says _ 0 (limit - length (t .list)) (λ d l v. second-says (t .cube) (end1-inside (t .cube) g e) (limit - length (t .list)) d (t .last) (omega arith) v) u))
