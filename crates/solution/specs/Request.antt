@@ -14,6 +14,7 @@ use Rattle.solution.specs.Text.{answerText}
 
 -- ---- a number
 
+-- each byte is a digit 0-9
 unfoldable pub allDigits : List ℕ → Bool
 allDigits [] = true
 allDigits (c ∷ s) = leb 48 c && (leb c 57 && allDigits s)
