@@ -237,19 +237,8 @@ fn walk_phase1(
         Turned::Refused => return 12884901888 + (left as u64),
         Turned::To(y) => {
             if cut_at_once(*prunes, y, d, left) {
-                return walk_phase1(
-                    moves,
-                    prunes,
-                    cube,
-                    limit,
-                    x,
-                    n,
-                    one,
-                    two,
-                    d,
-                    j + 1,
-                    left - 1,
-                );
+                let paid = left - 1;
+                return walk_phase1(moves, prunes, cube, limit, x, n, one, two, d, j + 1, paid);
             }
             one[n] = m;
             let r = solve_phase1(moves, prunes, cube, limit, y, n + 1, one, two, d, left);
@@ -257,19 +246,8 @@ fn walk_phase1(
                 return r;
             }
             one[n] = 0;
-            return walk_phase1(
-                moves,
-                prunes,
-                cube,
-                limit,
-                x,
-                n,
-                one,
-                two,
-                d,
-                j + 1,
-                r as u32,
-            );
+            let rest = r as u32;
+            return walk_phase1(moves, prunes, cube, limit, x, n, one, two, d, j + 1, rest);
         }
     }
 }

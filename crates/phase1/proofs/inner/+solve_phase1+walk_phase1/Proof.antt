@@ -166,13 +166,13 @@ walk-phase1-enum-known-step t c = search needs
 walk-phase1-cut-at-once-requires : (t : ℕ) → walk-phase1-lts.Need-cut-at-once-requires (walk-phase1-calls t) (walk-phase1-at t) walk-phase1.Post
 walk-phase1-cut-at-once-requires t c κs = (c .before .before .before .before .before .before .before .before .before .before .pre .1 .0 .four, made-below1 _ _ _ (sym (c .before .before .step .given .1) ∙ c .before .before .before .before .next .ensures))
 
+walk-phase1-sub-paid : (t : ℕ) → walk-phase1-lts.Need-sub-paid (walk-phase1-calls t) (walk-phase1-at t) walk-phase1.Post
+walk-phase1-sub-paid t c = cut-paid _ _ _ _ _ (sym (c .before .cut-at-once .ensures) ∙ c .if3 .taken)
+
 walk-phase1-add-walk-phase1-2 : (t : ℕ) → walk-phase1-lts.Need-add-walk-phase1-2 (walk-phase1-calls t) (walk-phase1-at t) walk-phase1.Post
 walk-phase1-add-walk-phase1-2 t c =
     let low : c .before .before .before .before .before .before .before .before .before .before .before .before .before .before .args .j < 18 = omega (arith, c .before .before .before .before .before .before .before .before .before .before .before .before .before .before .pre .1 .1 .1 .0 .2, c .before .before .before .before .before .before .before .before .before .before .before .before .before .if1 .left) in
     omega (arith, low)
-
-walk-phase1-sub-walk-phase1 : (t : ℕ) → walk-phase1-lts.Need-sub-walk-phase1 (walk-phase1-calls t) (walk-phase1-at t) walk-phase1.Post
-walk-phase1-sub-walk-phase1 t c = cut-paid _ _ _ _ _ (sym (c .before .before .before .cut-at-once .ensures) ∙ c .before .before .if3 .taken)
 
 walk-phase1-walk-phase1-requires-2 : (t : ℕ) → walk-phase1-lts.Need-walk-phase1-requires-2 (walk-phase1-calls t) (walk-phase1-at t) walk-phase1.Post
 walk-phase1-walk-phase1-requires-2 t c κs =
@@ -235,13 +235,13 @@ walk-phase1-element-write-one-2 t c =
     let room : c .before .before .before .before .before .before .before .before .before .before .before .before .before .before .before .before .args .n < 31 = omega (arith, c .before .before .before .before .before .before .before .before .before .before .before .before .before .before .before .before .pre .1 .1 .1 .0 .0, c .before .before .before .before .before .before .before .before .before .before .before .before .before .before .before .before .pre .1 .1 .1 .0 .1) in
     room
 
+walk-phase1-cast-rest : (t : ℕ) → walk-phase1-lts.Need-cast-rest (walk-phase1-calls t) (walk-phase1-at t) walk-phase1.Post
+walk-phase1-cast-rest t c = search needs
+
 walk-phase1-add-walk-phase1-3 : (t : ℕ) → walk-phase1-lts.Need-add-walk-phase1-3 (walk-phase1-calls t) (walk-phase1-at t) walk-phase1.Post
 walk-phase1-add-walk-phase1-3 t c =
     let low : c .before .before .before .before .before .before .before .before .before .before .before .before .before .before .before .before .before .before .args .j < 18 = omega (arith, c .before .before .before .before .before .before .before .before .before .before .before .before .before .before .before .before .before .before .pre .1 .1 .1 .0 .2, c .before .before .before .before .before .before .before .before .before .before .before .before .before .before .before .before .before .if1 .left) in
     omega (arith, low)
-
-walk-phase1-cast-walk-phase1 : (t : ℕ) → walk-phase1-lts.Need-cast-walk-phase1 (walk-phase1-calls t) (walk-phase1-at t) walk-phase1.Post
-walk-phase1-cast-walk-phase1 t c = search needs
 
 walk-phase1-walk-phase1-requires-3 : (t : ℕ) → walk-phase1-lts.Need-walk-phase1-requires-3 (walk-phase1-calls t) (walk-phase1-at t) walk-phase1.Post
 walk-phase1-walk-phase1-requires-3 t c κs =
@@ -313,8 +313,8 @@ pub +solve-phase1+walk-phase1-spec : {M : Type 1} → statement M
     (walk-phase1-returns-3 t)
     (walk-phase1-enum-known-step t)
     (walk-phase1-cut-at-once-requires t)
+    (walk-phase1-sub-paid t)
     (walk-phase1-add-walk-phase1-2 t)
-    (walk-phase1-sub-walk-phase1 t)
     (walk-phase1-walk-phase1-requires-2 t)
     (walk-phase1-returns-4 t)
     (walk-phase1-element-write-one t)
@@ -322,7 +322,7 @@ pub +solve-phase1+walk-phase1-spec : {M : Type 1} → statement M
     (walk-phase1-solve-phase1-requires t)
     (walk-phase1-returns-5 t)
     (walk-phase1-element-write-one-2 t)
+    (walk-phase1-cast-rest t)
     (walk-phase1-add-walk-phase1-3 t)
-    (walk-phase1-cast-walk-phase1 t)
     (walk-phase1-walk-phase1-requires-3 t)
     (walk-phase1-returns-6 t)
