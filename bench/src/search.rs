@@ -13,6 +13,9 @@ use std::hint::black_box;
 const RUNS: [(&str, usize, u8); 2] =
     [("search, 500 cubes, limit 23, ns an entry", 500, 23), ("search, 200 cubes, limit 22, ns an entry", 200, 22)];
 
+/// How many cubes one side searches before it is the other's turn: a machine that grows slow or quick meanwhile does so for both.
+const BATCH: usize = 10;
+
 pub fn measure(rounds: usize) -> Vec<Row> {
     let mut tables = Tables::room();
     tables.build();
@@ -26,8 +29,13 @@ fn row(what: &'static str, cubes: &[CubieCube], limit: u8, data: &DataTable, tab
     let (mut kewb, mut product) = (vec![], vec![]);
     let each = 1e9 / entries as f64;
     for _ in 0..rounds {
-        kewb.push(each * timed(|| cubes.iter().for_each(|c| drop(black_box(Solver::new(data, limit, None).solve(*c))))));
-        product.push(each * timed(|| raw.iter().for_each(|b| drop(black_box(tables.solve(b, limit))))));
+        let (mut theirs, mut ours) = (0.0, 0.0);
+        for (cubes, raw) in cubes.chunks(BATCH).zip(raw.chunks(BATCH)) {
+            theirs += timed(|| cubes.iter().for_each(|c| drop(black_box(Solver::new(data, limit, None).solve(*c)))));
+            ours += timed(|| raw.iter().for_each(|b| drop(black_box(tables.solve(b, limit)))));
+        }
+        kewb.push(each * theirs);
+        product.push(each * ours);
     }
     Row { what, kewb: spread(kewb), product: spread(product), bar: 0.55 }
 }
