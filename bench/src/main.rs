@@ -7,7 +7,7 @@ mod program;
 mod search;
 mod tables;
 
-use clock::Spread;
+use clock::{spread, Spread};
 use std::process::ExitCode;
 
 /// A row of the table: what was measured and in what, kewb's times and the product's, and the greatest share that is allowed.
@@ -30,17 +30,24 @@ impl Row {
     }
 }
 
-/// How long something takes that a person waits for, and the longest that is allowed for the median.
+/// How long something takes that a person waits for, the longest that is allowed for the median, and how many times were longer.
 pub struct Wait {
-    pub what: &'static str,
-    pub times: Spread,
-    pub bar: f64,
+    what: &'static str,
+    times: Spread,
+    bar: f64,
+    above: usize,
 }
 
 impl Wait {
+    pub fn new(what: &'static str, times: Vec<f64>, bar: f64) -> Wait {
+        let above = times.iter().filter(|&&time| time > bar).count();
+        Wait { what, times: spread(times), bar, above }
+    }
+
     fn print(&self) {
         let Spread { least, median, most } = self.times;
-        println!("{:42} {:>24} {:>24} {:>7} {:>6.0}", self.what, "", format!("{median:.1} ({least:.1} .. {most:.1})"), "", self.bar);
+        let times = format!("{median:.1} ({least:.1} .. {most:.1})");
+        println!("{:42} {:>24} {times:>24} {:>7} {:>6.0}, above it {}", self.what, "", "", self.bar, self.above);
     }
 }
 

@@ -1,6 +1,6 @@
 //! The program `solve` as a person waits for it: the time on the wall from its start to its last line, for a cube that needs no search; and
 //! the search alone, cube by cube, at the limit that it takes where none is given.
-use crate::clock::{spread, timed};
+use crate::clock::timed;
 use crate::cubes::{bytes, cubes};
 use crate::product::Tables;
 use crate::Wait;
@@ -18,8 +18,8 @@ pub fn measure(rounds: usize) -> Vec<Wait> {
     let raw: Vec<[u8; 40]> = cubes(500, 500).iter().map(bytes).collect();
     let each = raw.iter().map(|b| 1e3 * timed(|| drop(black_box(tables.solve(b, 23))))).collect();
     vec![
-        Wait { what: "solve: start, build and check, ms", times: spread(start), bar: 600.0 },
-        Wait { what: "one search at limit 23, 500 cubes, ms", times: spread(each), bar: 100.0 },
+        Wait::new("solve: start, build and check, ms", start, 600.0),
+        Wait::new("one search at limit 23, 500 cubes, ms", each, 100.0),
     ]
 }
 

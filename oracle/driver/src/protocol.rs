@@ -6,7 +6,7 @@ use wire::{Args, NAMES};
 type Request = (&'static str, &'static str, fn(&Args) -> Option<String>);
 
 /// A request that the product offers is one line here and one function.
-const OFFERED: [Request; 27] = [
+const OFFERED: [Request; 29] = [
     ("solvable", "tsunghawi_is_solvable", cubie::solvable),
     ("solved", "tsunghawi_is_solved", cubie::solved),
     ("counts", "tsunghawi_counts", cubie::counts),
@@ -34,6 +34,8 @@ const OFFERED: [Request; 27] = [
     ("build", "tsunghawi_get_prune_table", tables::build),
     ("pairs", "tsunghawi_get_pairs_table", tables::pairs),
     ("solve", "tsunghawi_solve", solve::solve),
+    ("nocut", "tsunghawi_solve", solve::plain),
+    ("plain", "tsunghawi_solve", solve::plain),
 ];
 
 /// Whether the library that was linked has a function.

@@ -40,11 +40,23 @@ fn zeros(room: &[u8], length: usize) -> bool {
     length <= room.len() && room[length..].iter().all(|&b| b == 0)
 }
 
-/// A limit that doesn't fit into the C function's argument is refused here, and only such a one.
+/// The search by the present tables.
 pub fn solve(args: &Args) -> Option<String> {
-    let (cube, limit, budget) = (args.cube(0)?, args.number::<u64>(1)?, args.number::<u64>(2)?);
+    let budget = args.number(2)?;
+    tables::with(|d| search(args, budget, &d.moves, &d.prunes))
+}
+
+/// The search that cuts nothing: by pruning tables that are 0 everywhere.
+pub fn plain(args: &Args) -> Option<String> {
+    let budget = args.number_or(2, u64::MAX)?;
+    tables::with(|d| search(args, budget, &d.moves, &vec![0; d.prunes.len()]))
+}
+
+/// A limit that doesn't fit into the C function's argument is refused here, and only such a one.
+fn search(args: &Args, budget: u64, moves: &[u16], prunes: &[u8]) -> Option<String> {
+    let (cube, limit) = (args.cube(0)?, args.number::<u64>(1)?);
     let budget = budget.min(u32::MAX.into()) as u32;
     let Ok(limit) = u8::try_from(limit) else { return Some(answer(Err(9))) };
-    let said = tables::with(|d| ffi::solve(&cube, limit, budget, &d.moves, &d.prunes));
+    let said = ffi::solve(&cube, limit, budget, moves, prunes);
     Some(said.map_or("changed".to_string(), |(word, rooms)| Word::of(word).answer(rooms)))
 }
