@@ -17,7 +17,7 @@ use Rattle.numbering.proofs.Phases.{phase1-column, co-follows, eo-follows, e-co
 use Rattle.move_table.specs.Tables.{tableAt, columns}
 use Rattle.move_table.proofs.Entries.{entry-at}
 use Rattle.pruning_table.specs.Check.{part, AllTrue}
-use Rattle.pruning_table.specs.Pairs.{held}
+use Rattle.pair_table.specs.Pairs.{held}
 use Rattle.pruning_table.proofs.Cuts.{co-small, eo-small, e-combo-small, cp-small, ud-ep-small, e-ep-small, cut-co-e, cut-eo-e, cut-cp-e, cut-ep-e}
 use Rattle.phase2.specs.Rules.{Shape, phase1, phase2, Fars, Coords, belowOf, cutOf, goOf}
 use Rattle.phase2.specs.Second.{turns2, fars2, coords2}

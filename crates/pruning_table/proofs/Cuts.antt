@@ -21,9 +21,9 @@ use Rattle.move_table.specs.Tables.{tableAt, columns, trueTable}
 use Rattle.move_table.proofs.Entries.{entry-at}
 use Rattle.move_table.proofs.Undone.{co-keeps, eo-keeps, e-combo-keeps, cp-keeps, ud-ep-keeps, e-ep-keeps}
 use Rattle.pruning_table.specs.Check.{firstOf, entries, part, AllTrue}
-use Rattle.pruning_table.specs.Pairs.{next, held, Walks, IsTrue}
-use Rattle.pruning_table.specs.Tables.{Closed, Undone}
-use Rattle.pruning_table.proofs.Steps.{in-row, row-of, col-of}
+use Rattle.pair_table.specs.Pairs.{next, held, Walks, IsTrue}
+use Rattle.pair_table.specs.Tables.{Closed, Undone}
+use Rattle.pair_table.proofs.Steps.{in-row, row-of, col-of}
 use Rattle.pruning_table.proofs.Ten.{trueStep, closed-of, undone-of}
 
 -- ---- d steps lead from p to pair 0

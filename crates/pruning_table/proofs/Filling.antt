@@ -13,11 +13,11 @@ use lib.Seq.{take-at, drop-at, drop-drop, length-take-le, take-append-le, drop-a
 use Rattle.base.specs.Lists.{Under}
 use Rattle.base.proofs.Perm.{less-cut}
 use Rattle.move_table.specs.Tables.{tableAt, columns}
-use Rattle.pruning_table.specs.Answers.{Decides, Unreached255, Layer, Outcome}
+use Rattle.pair_table.specs.Answers.{Decides, Unreached255, Layer, Outcome}
 use Rattle.pruning_table.specs.Block.{AllBelow, Filled, Missing, Refilled}
 use Rattle.pruning_table.specs.Check.{beginsAt, firstOf, secondOf, rows, entries, part, stepOf, Blocks}
-use Rattle.pruning_table.specs.Pairs.{next}
-use Rattle.pruning_table.specs.declared.Built.the-variants.{Done, Length, Entry, Unreached}
+use Rattle.pair_table.specs.Pairs.{next}
+use Rattle.pair_table.specs.declared.Built.the-variants.{Done, Length, Entry, Unreached}
 use Rattle.pruning_table.proofs.Parts.{Spot, spot-sizes, spot-len, spot-end, spot-first, spot-second, slice1, slice2}
 use Rattle.pruning_table.proofs.Ten.{by-prune}
 

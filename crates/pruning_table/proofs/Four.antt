@@ -13,9 +13,9 @@ use Rattle.move_table.proofs.Rows.{table-length}
 use Rattle.move_table.proofs.Six.{by-table}
 use Rattle.pruning_table.specs.Block.{AllFilled, SomeMissing, AllOutcome}
 use Rattle.pruning_table.specs.Check.{firstOf, entries, part, stepOf, Blocks, AllTrue}
-use Rattle.pruning_table.specs.Pairs.{held, Least, Known, IsTrue}
-use Rattle.pruning_table.specs.declared.Built.{Built}
-use Rattle.pruning_table.specs.declared.Built.the-variants.{Done, Length, Entry, Unreached}
+use Rattle.pair_table.specs.Pairs.{held, Least, Known, IsTrue}
+use Rattle.pair_table.specs.declared.Built.{Built}
+use Rattle.pair_table.specs.declared.Built.the-variants.{Done, Length, Entry, Unreached}
 use Rattle.pruning_table.proofs.Laws.{layer-one}
 use Rattle.pruning_table.proofs.Ten.{prune-within, part-length, same-step}
 

@@ -10,13 +10,13 @@ use lib.ListN.{length, length-append}
 use lib.Seq.{ext-getD}
 use Rattle.base.specs.Lists.{Under}
 use Rattle.base.proofs.Digits.{under-append}
-use Rattle.pruning_table.specs.Pairs.{next, held, run, Walks, Leads, IsTrue, Fine, Known}
-use Rattle.pruning_table.specs.Tables.{Ready, Inverses}
-use Rattle.pruning_table.specs.Answers.{Layer, Outcome, AnyOutcome}
-use Rattle.pruning_table.specs.declared.Built.{Built}
-use Rattle.pruning_table.specs.declared.Built.the-variants.{Done, Length, Entry, Unreached}
-use Rattle.pruning_table.proofs.Steps.{ready-closed, ready-pos, ready-undone}
-use Rattle.pruning_table.proofs.Truth.{least-one, check-law}
+use Rattle.pair_table.specs.Pairs.{next, held, run, Walks, Leads, IsTrue, Fine, Known}
+use Rattle.pair_table.specs.Tables.{Ready, Inverses}
+use Rattle.pair_table.specs.Answers.{Layer, Outcome, AnyOutcome}
+use Rattle.pair_table.specs.declared.Built.{Built}
+use Rattle.pair_table.specs.declared.Built.the-variants.{Done, Length, Entry, Unreached}
+use Rattle.pair_table.proofs.Steps.{ready-closed, ready-pos, ready-undone}
+use Rattle.pair_table.proofs.Truth.{least-one, check-law}
 
 -- ---- a walk is a list of moves
 

@@ -6,7 +6,7 @@ use native.Mathlib.Omega.{arith}
 use lib.ListN.{take, drop, length-take, length-drop}
 use Rattle.move_table.specs.Tables.{tableAt, columns}
 use Rattle.pruning_table.specs.Check.{beginsAt, firstOf, secondOf, rows, entries, part, Blocks}
-use Rattle.pruning_table.specs.Tables.{Counts, TableSizes}
+use Rattle.pair_table.specs.Tables.{Counts, TableSizes}
 use Rattle.pruning_table.proofs.Ten.{by-prune, firsts, seconds, counts-of, move-entries, move-within, prune-entries, prune-within}
 
 -- ---- the last of the cases of a match

@@ -15,9 +15,9 @@ use Rattle.move_table.proofs.Entries.{Back, all-back, phase2-back, entries-smal
 use Rattle.move_table.proofs.Rows.{table-length}
 use Rattle.move_table.proofs.Six.{by-table}
 use Rattle.pruning_table.specs.Check.{beginsAt, firstOf, secondOf, rows, entries, part, stepOf}
-use Rattle.pruning_table.specs.Pairs.{next}
-use Rattle.pruning_table.specs.Tables.{Counts, Inverses, Closed, Undone}
-use Rattle.pruning_table.proofs.Steps.{next-closed, next-undone}
+use Rattle.pair_table.specs.Pairs.{next}
+use Rattle.pair_table.specs.Tables.{Counts, Inverses, Closed, Undone}
+use Rattle.pair_table.proofs.Steps.{next-closed, next-undone}
 
 -- a statement about each of the four pruning tables
 pub by-prune : (P : ℕ → Type 0) → P 6 → P 7 → P 8 → P 9 → (t : ℕ) → t < 10 → 6 ≤ t → P t

@@ -5,10 +5,10 @@ use Prim.Native.Nat.{ℕ, _≤_, _<_}
 use lib.ListN.{length}
 use Rattle.base.specs.Lists.{Under}
 use Rattle.move_table.specs.Tables.{tableAt, columns}
-use Rattle.pruning_table.specs.Answers.{Unreached255, Layer}
+use Rattle.pair_table.specs.Answers.{Unreached255, Layer}
 use Rattle.pruning_table.specs.Check.{firstOf, rows, entries, part, stepOf, Blocks}
-use Rattle.pruning_table.specs.declared.Built.{Built}
-use Rattle.pruning_table.specs.declared.Built.the-variants.{Done, Length, Entry, Unreached}
+use Rattle.pair_table.specs.declared.Built.{Built}
+use Rattle.pair_table.specs.declared.Built.the-variants.{Done, Length, Entry, Unreached}
 
 -- the entries of the six lent move tables are below their counts
 abbrev pub AllBelow : List ℕ → Type 0

@@ -5,7 +5,7 @@ use mathlib.Core.List.{List, [], _∷_}
 use Prim.Native.Nat.{ℕ, _*_, _≤_, _<_}
 use lib.ListN.{length, getD, take, drop}
 use Rattle.move_table.specs.Tables.{tableAt, columns, size, trueTable}
-use Rattle.pruning_table.specs.Pairs.{next, held, IsTrue}
+use Rattle.pair_table.specs.Pairs.{next, held, IsTrue}
 
 -- ---- the layout: "Flat, row after row, in lent memory, in this order"
 

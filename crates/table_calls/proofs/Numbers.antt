@@ -13,9 +13,9 @@ use Rattle.base.proofs.Perm.{less-cut}
 use Rattle.base.proofs.Tests.{both-true, left-false, right-false}
 use Rattle.move_table.specs.Layout.{moveBlock, built}
 use Rattle.move_table.specs.Tables.{tableAt, columns, size, trueTable}
-use Rattle.pruning_table.specs.Answers.{Outcome, numberOf}
+use Rattle.pair_table.specs.Answers.{Outcome, numberOf}
 use Rattle.pruning_table.specs.Check.{firstOf, secondOf, rows, entries}
-use Rattle.pruning_table.specs.declared.Built.{Built}
+use Rattle.pair_table.specs.declared.Built.{Built}
 use Rattle.pruning_table.proofs.Four.{all-outcome-one}
 use Rattle.pruning_table.proofs.Laws.{outcome-one, any-outcome-one}
 use Rattle.pruning_table.proofs.Ten.{move-within, prune-within}

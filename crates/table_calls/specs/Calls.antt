@@ -9,10 +9,10 @@ use lib.ListN.{length}
 use Rattle.base.specs.Lists.{pick}
 use Rattle.move_table.specs.Layout.{moveBlock}
 use Rattle.move_table.specs.Tables.{tableAt, columns, size, trueTable}
-use Rattle.pruning_table.specs.Answers.{Outcome, AnyOutcome, numberOf}
+use Rattle.pair_table.specs.Answers.{Outcome, AnyOutcome, numberOf}
 use Rattle.pruning_table.specs.Block.{AllOutcome}
 use Rattle.pruning_table.specs.Check.{firstOf, secondOf, rows}
-use Rattle.pruning_table.specs.declared.Built.{Built}
+use Rattle.pair_table.specs.declared.Built.{Built}
 use Rattle.table_check.specs.Check.{Checks}
 use Rattle.table_check.specs.declared.Checked.{Checked}
 use Rattle.table_check.specs.declared.Checked.the-variants as checked

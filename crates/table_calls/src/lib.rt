@@ -1,9 +1,9 @@
 // The builders and the check of the tables by the tables' numbers, on lent memory, for the C interface: each returns the paper's number.
 ghost use mathlib.Core.Path.{_≡_};
-ghost use Rattle.pruning_table.specs.Answers.{numberOf};
+ghost use Rattle.pair_table.specs.Answers.{numberOf};
 ghost use Rattle.table_calls.specs.Calls.{tableNumber, tableLeft, blockNumber, blockLeft, PruneCall, PairsCall, PrunesCall, CheckCall};
 use move_table::MOVES_LEN;
-use pruning_table::Built;
+use pair_table::Built;
 use table_check::Checked;
 
 // Move table t, 0 to 5. A number above 5 is no move table's, so that no length fits.

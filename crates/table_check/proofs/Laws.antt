@@ -6,8 +6,8 @@ use Prim.Native.Nat.{ℕ, _*_, _≤_}
 use native.Mathlib.Nat.{le-antisymm, lt-of-not-le}
 use native.Mathlib.Decide.{decLe}
 use native.Mathlib.Omega.{arith}
-use Rattle.pruning_table.specs.Pairs.{next, held, IsTrue, Fine}
-use Rattle.pruning_table.specs.Tables.{Ready, Inverses}
+use Rattle.pair_table.specs.Pairs.{next, held, IsTrue, Fine}
+use Rattle.pair_table.specs.Tables.{Ready, Inverses}
 use Rattle.pruning_table.proofs.Laws.{table-law}
 use Rattle.table_check.specs.Check.{Tells}
 use Rattle.table_check.specs.declared.Rule.{Rule}

@@ -7,9 +7,9 @@ use native.Mathlib.Omega.{arith}
 use lib.Dec.{eqb}
 use borrow.Author.Tests.{eqb-true, eqb-false}
 use borrow.Author.Count.{below-more}
-use Rattle.pruning_table.specs.Answers.{Decides}
-use Rattle.pruning_table.specs.Pairs.{Between, Fine}
-use Rattle.pruning_table.proofs.Held.{decides}
+use Rattle.pair_table.specs.Answers.{Decides}
+use Rattle.pair_table.specs.Pairs.{Between, Fine}
+use Rattle.pair_table.proofs.Held.{decides}
 
 module _ (step : ℕ → ℕ → ℕ) (k : ℕ) (dist : ℕ → ℕ) where
   -- at pair 0

@@ -13,7 +13,7 @@ use Rattle.base.specs.Lists.{pick}
 use Rattle.move_table.specs.Tables.{tableAt, columns, trueTable, firstOff}
 use Rattle.move_table.proofs.Rows.{table-length}
 use Rattle.pruning_table.specs.Check.{firstOf, secondOf, rows, entries, part, Blocks}
-use Rattle.pruning_table.specs.Pairs.{next, held, Fine}
+use Rattle.pair_table.specs.Pairs.{next, held, Fine}
 use Rattle.pruning_table.proofs.Parts.{Spot, spot-len, slice1, slice2, slice}
 use Rattle.pruning_table.proofs.Ten.{move-entries, move-within, part-length}
 use Rattle.table_check.specs.Check.{Tells, MoveFine, PruneFine, FineAt}

@@ -14,11 +14,11 @@ use Rattle.move_table.specs.Tables.{tableAt, columns, trueTable}
 use Rattle.move_table.proofs.Rows.{table-length}
 use Rattle.pruning_table.specs.Block.{AllOutcome}
 use Rattle.pruning_table.specs.Check.{firstOf, entries, part, Blocks, AllTrue}
-use Rattle.pruning_table.specs.Pairs.{held, IsTrue, Fine}
-use Rattle.pruning_table.specs.declared.Built.the-variants.{Done}
+use Rattle.pair_table.specs.Pairs.{held, IsTrue, Fine}
+use Rattle.pair_table.specs.declared.Built.the-variants.{Done}
 use Rattle.pruning_table.proofs.Four.{built-all-true}
 use Rattle.pruning_table.proofs.Ten.{trueStep, sound, closed-of, undone-of, move-within, prune-within, move-entries, part-length, same-step}
-use Rattle.pruning_table.proofs.Truth.{check-law}
+use Rattle.pair_table.proofs.Truth.{check-law}
 use Rattle.table_check.specs.Check.{FineAt, Checks}
 use Rattle.table_check.specs.declared.Checked.{Checked}
 use Rattle.table_check.specs.declared.Checked.the-variants as checked

@@ -5,7 +5,7 @@ use Prim.Native.Nat.{ℕ, _≤_, _<_}
 use lib.ListN.{getD}
 use Rattle.move_table.specs.Tables.{tableAt, columns, trueTable}
 use Rattle.pruning_table.specs.Check.{firstOf, entries, part, stepOf, Blocks}
-use Rattle.pruning_table.specs.Pairs.{held, Fine}
+use Rattle.pair_table.specs.Pairs.{held, Fine}
 use Rattle.table_check.specs.declared.Checked.{Checked}
 use Rattle.table_check.specs.declared.Checked.the-variants as checked
 use Rattle.table_check.specs.declared.Rule.{Rule}

@@ -2,17 +2,17 @@
 ghost use mathlib.Core.Path.{_≡_};
 ghost use Prim.Native.Nat.{_*_, _≤_, _<_};
 ghost use lib.ListN.{length};
-ghost use Rattle.pruning_table.specs.Answers.{Decides};
+ghost use Rattle.pair_table.specs.Answers.{Decides};
 ghost use Rattle.pruning_table.specs.Check.{entries, Blocks};
-ghost use Rattle.pruning_table.specs.Pairs.{next, held, Fine};
-ghost use Rattle.pruning_table.specs.Tables.{Counts, TableSizes};
+ghost use Rattle.pair_table.specs.Pairs.{next, held, Fine};
+ghost use Rattle.pair_table.specs.Tables.{Counts, TableSizes};
 ghost use Rattle.table_check.specs.Check.{Tells, MoveFine, PruneFine, FineAt};
 use crate::Rule;
 use move_table::inner::columns_of;
 use move_table::inner::rows_of;
+use pair_table::inner::neighbour;
 use pruning_table::inner::first_of;
 use pruning_table::inner::move_begins;
-use pruning_table::inner::neighbour;
 use pruning_table::inner::prune_begins;
 use pruning_table::inner::second_of;
 

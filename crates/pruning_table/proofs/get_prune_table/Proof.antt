@@ -3,7 +3,7 @@ use mathlib.Core.Logic.{inl, inr}
 use mathlib.Core.Path.{refl}
 use borrow.Author.Needs.{needs}
 use borrow.Author.Tests.{not-true, not-false}
-use Rattle.pruning_table.proofs.Held.{yes-of, no-of}
+use Rattle.pair_table.proofs.Held.{yes-of, no-of}
 use Rattle.pruning_table.proofs.get_prune_table.Statement.{statement}
 use Rattle.pruning_table.proofs.get_prune_table.Tie as tie
 

@@ -4,7 +4,7 @@ use borrow.Author.Tests.{not-true, not-false}
 use denote.Ref.{now}
 use Rattle.pruning_table.specs.Block.{AllBelow}
 use Rattle.pruning_table.specs.Check.{Blocks}
-use Rattle.pruning_table.proofs.Held.{yes-of, no-of}
+use Rattle.pair_table.proofs.Held.{yes-of, no-of}
 use borrow.Author.Needs.{needs}
 use Rattle.pruning_table.proofs.get_prune_tables.Statement.{statement}
 use Rattle.pruning_table.proofs.get_prune_tables.Tie as tie

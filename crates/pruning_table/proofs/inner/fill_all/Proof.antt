@@ -7,9 +7,9 @@ use native.Mathlib.Omega.{arith}
 use borrow.Author.Needs.{needs}
 use denote.Ref.{now}
 use lib.ListN.{length}
-use Rattle.pruning_table.specs.Answers.{Decides}
+use Rattle.pair_table.specs.Answers.{Decides}
 use Rattle.pruning_table.proofs.Filling.{FilledTo, MissingTo, filled-none, missing-none, filled-more, missing-here, missing-still}
-use Rattle.pruning_table.proofs.Held.{yes-of, no-of}
+use Rattle.pair_table.proofs.Held.{yes-of, no-of}
 use Rattle.pruning_table.proofs.inner.fill_all.Statement.{statement}
 use Rattle.pruning_table.proofs.inner.fill_all.Tie as tie
 

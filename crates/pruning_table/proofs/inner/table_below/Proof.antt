@@ -5,7 +5,7 @@ use Prim.Native.Nat.{ℕ, _*_, _≤_, _+_}
 use native.Mathlib.Omega.{arith}
 use denote.Ref.{now}
 use Rattle.base.specs.Lists.{Under}
-use Rattle.pruning_table.specs.Answers.{Decides}
+use Rattle.pair_table.specs.Answers.{Decides}
 use Rattle.pruning_table.specs.Check.{entries}
 use Rattle.pruning_table.proofs.Parts.{slice-is, len-is}
 use Rattle.pruning_table.proofs.Ten.{move-within}

@@ -6,7 +6,7 @@ use denote.Ref.{now}
 use Rattle.base.specs.Lists.{Under}
 use Rattle.pruning_table.specs.Check.{rows, part}
 use Rattle.pruning_table.proofs.Filling.{below-none, below-more}
-use Rattle.pruning_table.proofs.Held.{yes-of, no-of}
+use Rattle.pair_table.proofs.Held.{yes-of, no-of}
 use Rattle.pruning_table.proofs.inner.tables_below.Statement.{statement}
 use Rattle.pruning_table.proofs.inner.tables_below.Tie as tie
 

@@ -5,8 +5,8 @@ use borrow.Author.Needs.{needs}
 use borrow.Author.Tests.{not-true, not-false}
 use borrow.Author.Count.{below-more, below-none}
 use lib.ListN.{length}
-use Rattle.pruning_table.specs.Pairs.{next, held, Fine}
-use Rattle.pruning_table.proofs.Held.{yes-of, no-of}
+use Rattle.pair_table.specs.Pairs.{next, held, Fine}
+use Rattle.pair_table.proofs.Held.{yes-of, no-of}
 use Rattle.table_check.proofs.inner.first_bad.Statement.{statement}
 use Rattle.table_check.proofs.inner.first_bad.Tie as tie
 

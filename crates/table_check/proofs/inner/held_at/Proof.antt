@@ -3,7 +3,7 @@ use mathlib.Core.Path.{sym}
 use borrow.Author.Needs.{needs}
 use denote.Ref.{now}
 use lib.ListN.{List·getD-eq-default}
-use Rattle.pruning_table.proofs.Held.{held-in}
+use Rattle.pair_table.proofs.Held.{held-in}
 use Rattle.table_check.proofs.inner.held_at.Statement.{statement}
 use Rattle.table_check.proofs.inner.held_at.Tie as tie
 

@@ -7,9 +7,9 @@ use native.Mathlib.Omega.{arith}
 use borrow.Author.Needs.{needs}
 use denote.Ref.{now}
 use lib.ListN.{getD}
-use Rattle.pruning_table.specs.Pairs.{next, held}
-use Rattle.pruning_table.proofs.Steps.{in-row, row-lt, col-lt}
-use Rattle.pruning_table.proofs.Held.{held-in}
+use Rattle.pair_table.specs.Pairs.{next, held}
+use Rattle.pair_table.proofs.Steps.{in-row, row-lt, col-lt}
+use Rattle.pair_table.proofs.Held.{held-in}
 use Rattle.table_check.proofs.PairRule.{Seen, seen-none, seen-one, seen-more, seen-all, fine-zero, fine-between}
 use Rattle.table_check.proofs.inner.pair_fine.Statement.{statement}
 use Rattle.table_check.proofs.inner.pair_fine.Tie as tie

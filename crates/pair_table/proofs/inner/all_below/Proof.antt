@@ -1,4 +1,4 @@
--- `pruning_table::inner::all_below` meets its contract. Assumes nothing.
+-- `pair_table::inner::all_below` meets its contract. Assumes nothing.
 use Prim.Native.Nat.{ℕ, _-_, _≤_, _<_}
 use native.Mathlib.Omega.{arith}
 use borrow.Author.Needs.{needs}
@@ -6,9 +6,9 @@ use borrow.Author.Count.{below-more, below-none}
 use denote.Ref.{now}
 use lib.ListN.{length, getD}
 use Rattle.base.proofs.Tests.{under-at}
-use Rattle.pruning_table.proofs.Steps.{at-under}
-use Rattle.pruning_table.proofs.inner.all_below.Statement.{statement}
-use Rattle.pruning_table.proofs.inner.all_below.Tie as tie
+use Rattle.pair_table.proofs.Steps.{at-under}
+use Rattle.pair_table.proofs.inner.all_below.Statement.{statement}
+use Rattle.pair_table.proofs.inner.all_below.Tie as tie
 
 abbrev Inv-loop : tie.InvT-loop
 Inv-loop t n i₀ i-end i = (i ≤ length t) × ((j : ℕ) → j < i → getD t j 0 < n)

@@ -1,4 +1,4 @@
--- `pruning_table::inner::get_prune_table` meets its contract. Assumes nothing.
+-- `pair_table::inner::get_prune_table` meets its contract. Assumes nothing.
 use mathlib.Core.Path.{_≡_, refl, _∙_}
 use Prim.Native.Nat.{_*_, _<_}
 use native.Mathlib.Nat.{mul-le-mul}
@@ -7,13 +7,13 @@ use borrow.Author.Needs.{needs}
 use borrow.Author.Tests.{not-true, not-false}
 use denote.Ref.{now}
 use lib.ListN.{length, length-set}
-use Rattle.pruning_table.specs.Pairs.{next}
-use Rattle.pruning_table.specs.Tables.{TableSizes, Ready}
-use Rattle.pruning_table.proofs.Steps.{ready-kept, ready-pos}
-use Rattle.pruning_table.proofs.Held.{yes-of, no-of}
-use Rattle.pruning_table.proofs.Bfs.{layer-first, last-unreached, last-done}
-use Rattle.pruning_table.proofs.inner.get_prune_table.Statement.{statement}
-use Rattle.pruning_table.proofs.inner.get_prune_table.Tie as tie
+use Rattle.pair_table.specs.Pairs.{next}
+use Rattle.pair_table.specs.Tables.{TableSizes, Ready}
+use Rattle.pair_table.proofs.Steps.{ready-kept, ready-pos}
+use Rattle.pair_table.proofs.Held.{yes-of, no-of}
+use Rattle.pair_table.proofs.Bfs.{layer-first, last-unreached, last-done}
+use Rattle.pair_table.proofs.inner.get_prune_table.Statement.{statement}
+use Rattle.pair_table.proofs.inner.get_prune_table.Tie as tie
 
 mul-if1 : tie.Need-mul-if1
 mul-if1 c = let s = c .before .before .before in omega (arith, mul-le-mul (s .pre .most1) (s .pre .moves))

@@ -6,10 +6,10 @@ use mathlib.Core.Logic.{_⊎_}
 use Prim.Native.Nat.{ℕ, _*_, _≤_, _<_}
 use lib.ListN.{length}
 use Rattle.base.specs.Lists.{Under}
-use Rattle.pruning_table.specs.Pairs.{next, held, Least, Known}
-use Rattle.pruning_table.specs.Tables.{Counts, TableSizes, Ready}
-use Rattle.pruning_table.specs.declared.Built.{Built}
-use Rattle.pruning_table.specs.declared.Built.the-variants.{Done, Length, Entry, Unreached}
+use Rattle.pair_table.specs.Pairs.{next, held, Least, Known}
+use Rattle.pair_table.specs.Tables.{Counts, TableSizes, Ready}
+use Rattle.pair_table.specs.declared.Built.{Built}
+use Rattle.pair_table.specs.declared.Built.the-variants.{Done, Length, Entry, Unreached}
 
 -- a bool that is the answer to the question whether P holds
 abbrev pub Decides : Type 0 → Bool → Type 0

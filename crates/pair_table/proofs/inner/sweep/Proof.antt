@@ -1,4 +1,4 @@
--- `pruning_table::inner::sweep` meets its contract.
+-- `pair_table::inner::sweep` meets its contract.
 -- The loop's invariant: what is known when the pairs below p have been passed (`Swept`), and that nothing was written while none held d. Assumes nothing.
 use mathlib.Core.Path.{_≡_, refl, sym, subst, _∙_}
 use mathlib.Core.Bool.{true, false}
@@ -9,12 +9,12 @@ use borrow.Author.Needs.{needs}
 use denote.Ref.{now}
 use lib.Dec.{T}
 use lib.ListN.{length}
-use Rattle.pruning_table.specs.Pairs.{next, held}
-use Rattle.pruning_table.proofs.Steps.{ready-kept, ready-closed, ready-pos}
-use Rattle.pruning_table.proofs.Held.{held-in}
-use Rattle.pruning_table.proofs.Bfs.{Swept, swept-none, swept-skip, swept-expand, swept-all}
-use Rattle.pruning_table.proofs.inner.sweep.Statement.{statement}
-use Rattle.pruning_table.proofs.inner.sweep.Tie as tie
+use Rattle.pair_table.specs.Pairs.{next, held}
+use Rattle.pair_table.proofs.Steps.{ready-kept, ready-closed, ready-pos}
+use Rattle.pair_table.proofs.Held.{held-in}
+use Rattle.pair_table.proofs.Bfs.{Swept, swept-none, swept-skip, swept-expand, swept-all}
+use Rattle.pair_table.proofs.inner.sweep.Statement.{statement}
+use Rattle.pair_table.proofs.inner.sweep.Tie as tie
 
 abbrev Inv-loop : tie.InvT-loop
 Inv-loop t1 t2 tab₀ n1 n2 k d met₀ p₀ p-end tab met p =

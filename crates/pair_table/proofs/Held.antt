@@ -6,8 +6,8 @@ use Prim.Native.Nat.{ℕ, zero, suc, _<_}
 use native.Mathlib.Nat.{not-suc-le-zero, le-of-suc-le-suc}
 use lib.Dec.{T}
 use lib.ListN.{length, getD}
-use Rattle.pruning_table.specs.Pairs.{held}
-use Rattle.pruning_table.specs.Answers.{Decides}
+use Rattle.pair_table.specs.Pairs.{held}
+use Rattle.pair_table.specs.Answers.{Decides}
 
 -- within a table, what a read gives is what the table holds
 pub held-in : (l : List ℕ) (q a : ℕ) → q < length l → getD l q a ≡ held l q

@@ -5,8 +5,8 @@ use mathlib.Core.Logic.{_↔_}
 use Prim.Native.Nat.{ℕ, zero, suc, _≤_, _<_}
 use native.Mathlib.Nat.{suc-ne-zero, le-antisymm}
 use native.Mathlib.Omega.{arith}
-use Rattle.pruning_table.specs.Pairs.{Walks, Least, IsTrue, Between, Fine}
-use Rattle.pruning_table.specs.Tables.{Closed, Undone}
+use Rattle.pair_table.specs.Pairs.{Walks, Least, IsTrue, Between, Fine}
+use Rattle.pair_table.specs.Tables.{Closed, Undone}
 
 -- the least number is one
 pub least-one : (step : ℕ → ℕ → ℕ) (k p v w : ℕ) → Least step k p v → Least step k p w → v ≡ w

@@ -7,8 +7,8 @@ use native.Mathlib.Omega.{arith}
 use lib.ListN.{length, getD}
 use Rattle.base.specs.Lists.{Under}
 use Rattle.base.proofs.Tests.{under-at}
-use Rattle.pruning_table.specs.Pairs.{next}
-use Rattle.pruning_table.specs.Tables.{Ready, Inverse, Inverses, Closed, Undone}
+use Rattle.pair_table.specs.Pairs.{next}
+use Rattle.pair_table.specs.Tables.{Ready, Inverse, Inverses, Closed, Undone}
 
 -- what holds at each index holds of each element
 pub at-under : (n : ℕ) (xs : List ℕ) → ((i : ℕ) → i < length xs → getD xs i 0 < n) → Under n xs

@@ -1,4 +1,4 @@
--- `pruning_table::inner::expand` meets its contract. The loop's invariant is the contract's, at the moves tried so far. Assumes nothing.
+-- `pair_table::inner::expand` meets its contract. The loop's invariant is the contract's, at the moves tried so far. Assumes nothing.
 use mathlib.Core.Path.{_≡_, sym, ap, subst, _∙_}
 use mathlib.Core.Logic.{⊎-elim}
 use Prim.Native.Nat.{ℕ, _-_, _/_, _%_, _≤_, _<_}
@@ -6,13 +6,13 @@ use native.Mathlib.Omega.{arith}
 use borrow.Author.Needs.{needs}
 use denote.Ref.{now}
 use lib.ListN.{length, length-set, getD}
-use Rattle.pruning_table.specs.Pairs.{next, held}
-use Rattle.pruning_table.specs.Answers.{Expanded}
-use Rattle.pruning_table.proofs.Steps.{in-row, row-lt, col-lt, ready-closed}
-use Rattle.pruning_table.proofs.Held.{held-in}
-use Rattle.pruning_table.proofs.Bfs.{expanded-none, expanded-keep, expanded-set}
-use Rattle.pruning_table.proofs.inner.expand.Statement.{statement}
-use Rattle.pruning_table.proofs.inner.expand.Tie as tie
+use Rattle.pair_table.specs.Pairs.{next, held}
+use Rattle.pair_table.specs.Answers.{Expanded}
+use Rattle.pair_table.proofs.Steps.{in-row, row-lt, col-lt, ready-closed}
+use Rattle.pair_table.proofs.Held.{held-in}
+use Rattle.pair_table.proofs.Bfs.{expanded-none, expanded-keep, expanded-set}
+use Rattle.pair_table.proofs.inner.expand.Statement.{statement}
+use Rattle.pair_table.proofs.inner.expand.Tie as tie
 
 abbrev Inv-loop : tie.InvT-loop
 Inv-loop t1 t2 tab₀ n1 n2 k p d i j m₀ tab m =

@@ -1,12 +1,12 @@
--- `pruning_table::inner::neighbour` meets its contract: an entry has 16 bits, so its product with a count of at most 65,536 fits. Assumes nothing.
+-- `pair_table::inner::neighbour` meets its contract: an entry has 16 bits, so its product with a count of at most 65,536 fits. Assumes nothing.
 use Prim.Native.Nat.{ℕ, _+_, _*_, _≤_}
 use native.Mathlib.Nat.{mul-le-mul}
 use native.Mathlib.Omega.{arith}
 use borrow.Author.Needs.{needs}
 use denote.Ref.{now}
 use lib.ListN.{getD}
-use Rattle.pruning_table.proofs.inner.neighbour.Statement.{statement}
-use Rattle.pruning_table.proofs.inner.neighbour.Tie as tie
+use Rattle.pair_table.proofs.inner.neighbour.Statement.{statement}
+use Rattle.pair_table.proofs.inner.neighbour.Tie as tie
 
 -- where the two entries stand
 abbrev at1 : tie.Start → ℕ

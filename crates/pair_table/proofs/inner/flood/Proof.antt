@@ -1,4 +1,4 @@
--- `pruning_table::inner::flood` meets its contract. The loop's invariant: the pairs within d moves are found.
+-- `pair_table::inner::flood` meets its contract. The loop's invariant: the pairs within d moves are found.
 -- A sweep that met no pair changed nothing, and then no walk leads on (`stuck`). Assumes nothing.
 use mathlib.Core.Path.{_≡_, sym, subst, _∙_}
 use mathlib.Core.List.{List}
@@ -8,12 +8,12 @@ use borrow.Author.Needs.{needs}
 use borrow.Author.Tests.{not-true}
 use denote.Ref.{now}
 use lib.ListN.{length}
-use Rattle.pruning_table.specs.Pairs.{next}
-use Rattle.pruning_table.specs.Answers.{Layer}
-use Rattle.pruning_table.proofs.Steps.{ready-kept, ready-closed, ready-pos}
-use Rattle.pruning_table.proofs.Bfs.{stuck}
-use Rattle.pruning_table.proofs.inner.flood.Statement.{statement}
-use Rattle.pruning_table.proofs.inner.flood.Tie as tie
+use Rattle.pair_table.specs.Pairs.{next}
+use Rattle.pair_table.specs.Answers.{Layer}
+use Rattle.pair_table.proofs.Steps.{ready-kept, ready-closed, ready-pos}
+use Rattle.pair_table.proofs.Bfs.{stuck}
+use Rattle.pair_table.proofs.inner.flood.Statement.{statement}
+use Rattle.pair_table.proofs.inner.flood.Tie as tie
 
 abbrev Inv-loop : tie.InvT-loop
 Inv-loop t1 t2 tab₀ n1 n2 k d₀ tab d = (d ≤ 254) × (length tab ≡ length tab₀) × Layer (next t1 t2 n2 k) k (n1 * n2) d tab

@@ -1,4 +1,4 @@
--- `pruning_table::inner::clear` meets its contract. Assumes nothing.
+-- `pair_table::inner::clear` meets its contract. Assumes nothing.
 use Prim.Native.Nat.{_-_, _≤_}
 use native.Mathlib.Omega.{arith}
 use borrow.Author.Needs.{needs}
@@ -8,8 +8,8 @@ use mathlib.Core.List.{_++_, append-nil}
 use lib.ListN.{length, length-set, drop, replicate}
 use lib.Seq.{drop-length}
 use borrow.Author.Fill.{fill-none, fill-more}
-use Rattle.pruning_table.proofs.inner.clear.Statement.{statement}
-use Rattle.pruning_table.proofs.inner.clear.Tie as tie
+use Rattle.pair_table.proofs.inner.clear.Statement.{statement}
+use Rattle.pair_table.proofs.inner.clear.Tie as tie
 
 abbrev Inv-loop : tie.InvT-loop
 Inv-loop tab₀ p₀ p-end tab p = (p ≤ length tab₀) × (length tab ≡ length tab₀) × (tab ≡ replicate p 255 ++ drop p tab₀)

@@ -1,4 +1,4 @@
--- `pruning_table::inner::some_unreached` meets its contract. Assumes nothing.
+-- `pair_table::inner::some_unreached` meets its contract. Assumes nothing.
 use Prim.Native.Nat.{ℕ, _-_, _≤_, _<_}
 use native.Mathlib.Omega.{arith}
 use borrow.Author.Needs.{needs}
@@ -6,10 +6,10 @@ use borrow.Author.Count.{below-more, below-none}
 use denote.Ref.{now}
 use mathlib.Core.Path.{_≡_, sym, _∙_}
 use lib.ListN.{length}
-use Rattle.pruning_table.specs.Pairs.{held}
-use Rattle.pruning_table.proofs.Held.{held-in}
-use Rattle.pruning_table.proofs.inner.some_unreached.Statement.{statement}
-use Rattle.pruning_table.proofs.inner.some_unreached.Tie as tie
+use Rattle.pair_table.specs.Pairs.{held}
+use Rattle.pair_table.proofs.Held.{held-in}
+use Rattle.pair_table.proofs.inner.some_unreached.Statement.{statement}
+use Rattle.pair_table.proofs.inner.some_unreached.Tie as tie
 
 abbrev Inv-loop : tie.InvT-loop
 Inv-loop tab p₀ p-end p = (p ≤ length tab) × ((q : ℕ) → q < p → held tab q ≡ 255 → ⊥)

@@ -10,11 +10,11 @@ use native.Mathlib.Omega.{arith}
 use lib.ListN.{length, set, replicate, length-replicate}
 use lib.Seq.{getD-set-same, getD-set-other}
 use borrow.Author.Count.{below-more}
-use Rattle.pruning_table.specs.Pairs.{next, held, Walks, Least}
-use Rattle.pruning_table.specs.Tables.{Ready, Closed}
-use Rattle.pruning_table.specs.Answers.{Layer, ExpandedAt, Expanded, Unreached255, Outcome}
-use Rattle.pruning_table.specs.declared.Built.the-variants.{Done, Unreached}
-use Rattle.pruning_table.proofs.Truth.{walk-in, least-one}
+use Rattle.pair_table.specs.Pairs.{next, held, Walks, Least}
+use Rattle.pair_table.specs.Tables.{Ready, Closed}
+use Rattle.pair_table.specs.Answers.{Layer, ExpandedAt, Expanded, Unreached255, Outcome}
+use Rattle.pair_table.specs.declared.Built.the-variants.{Done, Unreached}
+use Rattle.pair_table.proofs.Truth.{walk-in, least-one}
 
 -- ---- expanding one pair
 

@@ -1,7 +1,7 @@
--- `pruning_table::inner::counts_fit` meets its contract. Assumes nothing.
+-- `pair_table::inner::counts_fit` meets its contract. Assumes nothing.
 use native.Mathlib.Omega.{arith}
-use Rattle.pruning_table.proofs.inner.counts_fit.Statement.{statement}
-use Rattle.pruning_table.proofs.inner.counts_fit.Tie as tie
+use Rattle.pair_table.proofs.inner.counts_fit.Statement.{statement}
+use Rattle.pair_table.proofs.inner.counts_fit.Tie as tie
 
 returns : tie.Need-returns
 returns c = λ w. omega (arith, w .pos1)
