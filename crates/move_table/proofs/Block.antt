@@ -7,7 +7,7 @@ use lib.ListN.{length, drop, length-append, drop-of-length-le}
 use lib.Seq.{paste}
 use Rattle.base.proofs.Steps.{paste-next}
 use Rattle.move_table.specs.Layout.{moveBlock}
-use Rattle.move_table.specs.Tables.{tableAt, trueTable}
+use Rattle.move_row.specs.Tables.{tableAt, trueTable}
 use Rattle.move_table.proofs.Rows.{table-length}
 
 -- `paste`, kept shut: with numerals this large a list is not to be computed

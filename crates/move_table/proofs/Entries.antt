@@ -13,9 +13,9 @@ use Rattle.base.specs.Lists.{allBelow, Under}
 use Rattle.base.proofs.Tests.{and-true, below-true}
 use Rattle.moves.specs.Moves.{inverseMove, allMoves, phase2Moves}
 use Rattle.numbering.specs.Kinds.{after}
-use Rattle.move_table.specs.Tables.{MoveTable, tableAt, columns, trueTable}
+use Rattle.move_row.specs.Tables.{MoveTable, tableAt, columns, trueTable}
 use Rattle.move_table.proofs.Rows.{row-at, table-part, table-length}
-use Rattle.move_table.proofs.Six.{by-table}
+use Rattle.move_row.proofs.Six.{by-table}
 use Rattle.move_table.proofs.Undone.{after-small, after-undone, co-keeps, eo-keeps, e-combo-keeps, cp-keeps, ud-ep-keeps, e-ep-keeps}
 
 -- row i, column j

@@ -1,10 +1,9 @@
-pub mod After
+-- The laws of rows, tables and their block, and that each column has an inverse column.
 pub mod Block
+pub mod Bounds
 pub mod Constants
-pub mod Cubes
 pub mod Entries
 pub mod Offs
 pub mod Rows
-pub mod Six
 pub mod Sizes
 pub mod Undone

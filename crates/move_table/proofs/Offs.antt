@@ -13,7 +13,7 @@ use lib.Seq.{drop-drop}
 use borrow.Author.Tests.{eq-eqb, ne-eqb}
 use Rattle.base.specs.Lists.{pick}
 use Rattle.base.proofs.Steps.{next}
-use Rattle.move_table.specs.Tables.{firstOff}
+use Rattle.move_row.specs.Tables.{firstOff}
 
 -- ---- two lists one behind the other
 

@@ -9,7 +9,7 @@ use borrow.Rule.Slice.PartMut.{putMid, same-len-mid, mid-len, take-put}
 use lib.ListN.{length, getD, take, drop, length-append}
 use lib.Seq.{take-at, drop-at, drop-drop, drop-append-add, take-add, length-take-le, take-all, paste}
 use Rattle.base.proofs.Product.{map-range-at, map-range-length}
-use Rattle.move_table.specs.Tables.{MoveTable, columns, size, trueEntry, trueRow, rowsFrom, trueTable, moved}
+use Rattle.move_row.specs.Tables.{MoveTable, columns, size, trueEntry, trueRow, rowsFrom, trueTable, moved}
 
 module _ (t : MoveTable) where
   pub row-length : (i : ℕ) → length (trueRow t i) ≡ columns t

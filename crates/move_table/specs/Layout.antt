@@ -6,7 +6,7 @@ use lib.ListN.{length}
 use Rattle.base.specs.Lists.{pick}
 use Rattle.moves.specs.declared.Verdict.{Verdict}
 use Rattle.moves.specs.declared.Verdict.the-variants.{Good, Refused}
-use Rattle.move_table.specs.Tables.{tableAt, trueTable}
+use Rattle.move_row.specs.Tables.{tableAt, trueTable}
 
 -- the block of the six, one after the other: 891,780 entries
 unfoldable pub moveBlock : List ℕ

@@ -1,7 +1,7 @@
 // The six move tables: kewb's src/two_phase/moves.rs.
 ghost use mathlib.Core.Path.{_≡_};
 ghost use Rattle.move_table.specs.Layout.{moveBlock, sizedVerdict, built};
-ghost use Rattle.move_table.specs.Tables.{tableAt, trueTable};
+ghost use Rattle.move_row.specs.Tables.{tableAt, trueTable};
 use moves::Verdict;
 
 pub mod inner;

@@ -17,7 +17,7 @@ use Rattle.cubie.proofs.Turns.{turn-range}
 use Rattle.numbering.specs.Kinds.{Kind, co, eo, eCombo, cp, udEp, eEp, coordinate, after, InPhase2, Follows}
 use Rattle.numbering.proofs.Phases.{phase1-column, phase2-column, phase2-keeps, twists-sum, four-low, front, lowered, lowered-back, lowered-perm}
 use Rattle.numbering.proofs.Phases.{co-follows, eo-follows, e-combo-follows, cp-follows, ud-ep-follows, e-ep-follows}
-use Rattle.move_table.specs.Tables.{tableAt, columns, trueTable}
+use Rattle.move_row.specs.Tables.{tableAt, columns, trueTable}
 use Rattle.move_table.proofs.Entries.{entry-at}
 use Rattle.move_table.proofs.Undone.{co-keeps, eo-keeps, e-combo-keeps, cp-keeps, ud-ep-keeps, e-ep-keeps}
 use Rattle.pruning_table.specs.Check.{firstOf, entries, part, AllTrue}

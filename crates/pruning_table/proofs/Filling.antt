@@ -12,7 +12,7 @@ use lib.ListN.{length, take, drop, length-take, length-drop, take-append-drop}
 use lib.Seq.{take-at, drop-at, drop-drop, length-take-le, take-append-le, drop-append-le, drop-append-add}
 use Rattle.base.specs.Lists.{Under}
 use Rattle.base.proofs.Perm.{less-cut}
-use Rattle.move_table.specs.Tables.{tableAt, columns}
+use Rattle.move_row.specs.Tables.{tableAt, columns}
 use Rattle.pair_table.specs.Answers.{Decides, Unreached255, Layer, Outcome}
 use Rattle.pruning_table.specs.Block.{AllBelow, Filled, Missing, Refilled}
 use Rattle.pruning_table.specs.Check.{beginsAt, firstOf, secondOf, rows, entries, part, stepOf, Blocks}

@@ -8,9 +8,9 @@ use native.Mathlib.Omega.{arith}
 use lib.ListN.{length, take, drop, take-append-drop, drop-of-length-le}
 use lib.Seq.{take-at, take-all, drop-at, drop-drop}
 use Rattle.move_table.specs.Layout.{moveBlock}
-use Rattle.move_table.specs.Tables.{tableAt, columns, trueTable}
+use Rattle.move_row.specs.Tables.{tableAt, columns, trueTable}
 use Rattle.move_table.proofs.Rows.{table-length}
-use Rattle.move_table.proofs.Six.{by-table}
+use Rattle.move_row.proofs.Six.{by-table}
 use Rattle.pruning_table.specs.Block.{AllFilled, SomeMissing, AllOutcome}
 use Rattle.pruning_table.specs.Check.{firstOf, entries, part, stepOf, Blocks, AllTrue}
 use Rattle.pair_table.specs.Pairs.{held, Least, Known, IsTrue}

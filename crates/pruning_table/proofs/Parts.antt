@@ -4,7 +4,7 @@ use mathlib.Core.List.{List}
 use Prim.Native.Nat.{ℕ, _+_, _-_, _*_, _≤_, _<_}
 use native.Mathlib.Omega.{arith}
 use lib.ListN.{take, drop, length-take, length-drop}
-use Rattle.move_table.specs.Tables.{tableAt, columns}
+use Rattle.move_row.specs.Tables.{tableAt, columns}
 use Rattle.pruning_table.specs.Check.{beginsAt, firstOf, secondOf, rows, entries, part, Blocks}
 use Rattle.pair_table.specs.Tables.{Counts, TableSizes}
 use Rattle.pruning_table.proofs.Ten.{by-prune, firsts, seconds, counts-of, move-entries, move-within, prune-entries, prune-within}

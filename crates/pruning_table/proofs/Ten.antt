@@ -10,10 +10,10 @@ use borrow.Author.Tests.{ltb-true, leb-true}
 use Rattle.base.specs.Lists.{Under}
 use Rattle.base.proofs.Tests.{and-true}
 use Rattle.moves.specs.Moves.{inverseMove, allMoves, phase2Moves}
-use Rattle.move_table.specs.Tables.{tableAt, columns, size, trueTable}
+use Rattle.move_row.specs.Tables.{tableAt, columns, size, trueTable}
 use Rattle.move_table.proofs.Entries.{Back, all-back, phase2-back, entries-small, entry-back}
 use Rattle.move_table.proofs.Rows.{table-length}
-use Rattle.move_table.proofs.Six.{by-table}
+use Rattle.move_row.proofs.Six.{by-table}
 use Rattle.pruning_table.specs.Check.{beginsAt, firstOf, secondOf, rows, entries, part, stepOf}
 use Rattle.pair_table.specs.Pairs.{next}
 use Rattle.pair_table.specs.Tables.{Counts, Inverses, Closed, Undone}

@@ -4,7 +4,7 @@ use mathlib.Core.List.{List}
 use Prim.Native.Nat.{ℕ, _≤_, _<_}
 use lib.ListN.{length}
 use Rattle.base.specs.Lists.{Under}
-use Rattle.move_table.specs.Tables.{tableAt, columns}
+use Rattle.move_row.specs.Tables.{tableAt, columns}
 use Rattle.pair_table.specs.Answers.{Unreached255, Layer}
 use Rattle.pruning_table.specs.Check.{firstOf, rows, entries, part, stepOf, Blocks}
 use Rattle.pair_table.specs.declared.Built.{Built}

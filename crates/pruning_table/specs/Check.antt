@@ -4,7 +4,7 @@ use mathlib.Core.Path.{_≡_}
 use mathlib.Core.List.{List, [], _∷_}
 use Prim.Native.Nat.{ℕ, _*_, _≤_, _<_}
 use lib.ListN.{length, getD, take, drop}
-use Rattle.move_table.specs.Tables.{tableAt, columns, size, trueTable}
+use Rattle.move_row.specs.Tables.{tableAt, columns, size, trueTable}
 use Rattle.pair_table.specs.Pairs.{next, held, IsTrue}
 
 -- ---- the layout: "Flat, row after row, in lent memory, in this order"

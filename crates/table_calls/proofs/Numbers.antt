@@ -12,7 +12,7 @@ use borrow.Author.Tests.{lt-ltb, le-ltb, eq-eqb, ne-eqb}
 use Rattle.base.proofs.Perm.{less-cut}
 use Rattle.base.proofs.Tests.{both-true, left-false, right-false}
 use Rattle.move_table.specs.Layout.{moveBlock, built}
-use Rattle.move_table.specs.Tables.{tableAt, columns, size, trueTable}
+use Rattle.move_row.specs.Tables.{tableAt, columns, size, trueTable}
 use Rattle.pair_table.specs.Answers.{Outcome, numberOf}
 use Rattle.pruning_table.specs.Check.{firstOf, secondOf, rows, entries}
 use Rattle.pair_table.specs.declared.Built.{Built}

@@ -8,7 +8,7 @@ use lib.Dec.{ltb, eqb}
 use lib.ListN.{length}
 use Rattle.base.specs.Lists.{pick}
 use Rattle.move_table.specs.Layout.{moveBlock}
-use Rattle.move_table.specs.Tables.{tableAt, columns, size, trueTable}
+use Rattle.move_row.specs.Tables.{tableAt, columns, size, trueTable}
 use Rattle.pair_table.specs.Answers.{Outcome, AnyOutcome, numberOf}
 use Rattle.pruning_table.specs.Block.{AllOutcome}
 use Rattle.pruning_table.specs.Check.{firstOf, secondOf, rows}

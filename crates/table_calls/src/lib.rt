@@ -14,7 +14,7 @@ pub fn get_move_table(t: u8, table: &mut [u16]) -> u8
     if 6 <= t {
         return 10;
     }
-    if table.len() != move_table::inner::rows_of(t) * move_table::inner::columns_of(t) {
+    if table.len() != move_row::inner::rows_of(t) * move_row::inner::columns_of(t) {
         return 10;
     }
     move_table::inner::fill(t, table);

@@ -10,7 +10,7 @@ use lib.Dec.{eqb}
 use lib.ListN.{length, getD, take, drop}
 use borrow.Author.Tests.{eqb-true, eqb-false}
 use Rattle.base.specs.Lists.{pick}
-use Rattle.move_table.specs.Tables.{tableAt, columns, trueTable, firstOff}
+use Rattle.move_row.specs.Tables.{tableAt, columns, trueTable, firstOff}
 use Rattle.move_table.proofs.Rows.{table-length}
 use Rattle.pruning_table.specs.Check.{firstOf, secondOf, rows, entries, part, Blocks}
 use Rattle.pair_table.specs.Pairs.{next, held, Fine}

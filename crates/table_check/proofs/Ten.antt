@@ -10,7 +10,7 @@ use lib.ListN.{length, getD}
 use lib.Seq.{ext-getD}
 use Rattle.base.proofs.Perm.{less-cut}
 use Rattle.move_table.specs.Layout.{moveBlock}
-use Rattle.move_table.specs.Tables.{tableAt, columns, trueTable}
+use Rattle.move_row.specs.Tables.{tableAt, columns, trueTable}
 use Rattle.move_table.proofs.Rows.{table-length}
 use Rattle.pruning_table.specs.Block.{AllOutcome}
 use Rattle.pruning_table.specs.Check.{firstOf, entries, part, Blocks, AllTrue}

@@ -3,7 +3,7 @@ use mathlib.Core.Path.{_≡_}
 use mathlib.Core.List.{List}
 use Prim.Native.Nat.{ℕ, _≤_, _<_}
 use lib.ListN.{getD}
-use Rattle.move_table.specs.Tables.{tableAt, columns, trueTable}
+use Rattle.move_row.specs.Tables.{tableAt, columns, trueTable}
 use Rattle.pruning_table.specs.Check.{firstOf, entries, part, stepOf, Blocks}
 use Rattle.pair_table.specs.Pairs.{held, Fine}
 use Rattle.table_check.specs.declared.Checked.{Checked}

@@ -6,7 +6,7 @@ use borrow.Author.Called.{Called}
 use borrow.Fn.Args.{argsV}
 use denote.Ref.{now}
 use Rattle.move_table.specs.Layout.{moveBlock}
-use Rattle.move_table.specs.Tables.{tableAt, trueTable}
+use Rattle.move_row.specs.Tables.{tableAt, trueTable}
 use Rattle.move_table.proofs.Block.{pasteAt, table-pasted, block-pasted}
 use Rattle.move_table.proofs.Sizes.{not-sized, sized}
 use borrow.Author.Needs.{needs}

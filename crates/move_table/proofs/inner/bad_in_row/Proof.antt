@@ -8,10 +8,10 @@ use borrow.Author.Needs.{needs}
 use denote.Ref.{now}
 use lib.ListN.{length, take, drop}
 use lib.Seq.{length-take-le}
-use Rattle.move_table.specs.Tables.{tableAt, columns, trueRow, firstOff, Domain}
+use Rattle.move_row.specs.Tables.{tableAt, columns, trueRow, firstOff, Domain}
 use Rattle.move_table.proofs.Offs.{off-step, off-stop, off-end}
 use Rattle.move_table.proofs.Rows.{row-length, entry-is}
-use Rattle.move_table.proofs.Six.{few-columns, few-places, column-moves, row-domain}
+use Rattle.move_table.proofs.Bounds.{few-columns, few-places, column-moves, row-domain}
 use Rattle.move_table.proofs.inner.bad_in_row.Statement.{statement}
 use Rattle.move_table.proofs.inner.bad_in_row.Tie as tie
 

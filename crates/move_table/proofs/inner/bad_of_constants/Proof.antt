@@ -8,7 +8,7 @@ use borrow.Author.Needs.{needs}
 use denote.Ref.{now}
 use lib.ListN.{length, getD, drop}
 use Rattle.move_table.specs.Constants.{eEpTable}
-use Rattle.move_table.specs.Tables.{tableAt, trueTable, firstOff}
+use Rattle.move_row.specs.Tables.{tableAt, trueTable, firstOff}
 use Rattle.move_table.proofs.Constants.{e-ep-constants}
 use Rattle.move_table.proofs.Offs.{off-step, off-stop, off-end}
 use Rattle.move_table.proofs.Rows.{table-length}

@@ -8,9 +8,9 @@ use borrow.Rule.Slice.PartMut.{mid-len}
 use denote.Ref.{now}
 use lib.ListN.{length, take}
 use Rattle.base.proofs.Steps.{written-all}
-use Rattle.move_table.specs.Tables.{tableAt, trueTable}
+use Rattle.move_row.specs.Tables.{tableAt, trueTable}
 use Rattle.move_table.proofs.Rows.{row-length, table-length, table-part, row-more, row-kept}
-use Rattle.move_table.proofs.Six.{row-fits, rows-done}
+use Rattle.move_table.proofs.Bounds.{row-fits, rows-done}
 use Rattle.move_table.proofs.inner.fill.Statement.{statement}
 use Rattle.move_table.proofs.inner.fill.Tie as tie
 

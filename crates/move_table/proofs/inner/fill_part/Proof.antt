@@ -1,7 +1,7 @@
 -- `move_table::inner::fill_part` meets its contract. Assumes nothing.
 use mathlib.Core.Path.{sym, _∙_}
 use denote.Ref.{now}
-use Rattle.move_table.specs.Tables.{tableAt, trueTable}
+use Rattle.move_row.specs.Tables.{tableAt, trueTable}
 use Rattle.move_table.proofs.Rows.{table-length, put-paste}
 use borrow.Author.Needs.{needs}
 use Rattle.move_table.proofs.inner.fill_part.Statement.{statement}

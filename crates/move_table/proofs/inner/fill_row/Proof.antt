@@ -7,9 +7,9 @@ use borrow.Author.Needs.{needs}
 use lib.ListN.{length, take, length-set}
 use Rattle.base.proofs.Steps.{written-more, written-all}
 use lib.Seq.{length-take-le}
-use Rattle.move_table.specs.Tables.{tableAt, columns, trueRow, Domain}
+use Rattle.move_row.specs.Tables.{tableAt, columns, trueRow, Domain}
 use Rattle.move_table.proofs.Rows.{row-length, entry-is}
-use Rattle.move_table.proofs.Six.{few-columns, few-places, column-moves, row-domain}
+use Rattle.move_table.proofs.Bounds.{few-columns, few-places, column-moves, row-domain}
 use Rattle.move_table.proofs.inner.fill_row.Statement.{statement}
 use Rattle.move_table.proofs.inner.fill_row.Tie as tie
 

@@ -7,10 +7,10 @@ use borrow.Author.Needs.{needs}
 use borrow.Rule.Slice.PartMut.{mid-len}
 use denote.Ref.{now}
 use lib.ListN.{length, drop}
-use Rattle.move_table.specs.Tables.{tableAt, size, trueRow, trueTable, firstOff}
+use Rattle.move_row.specs.Tables.{tableAt, size, trueRow, trueTable, firstOff}
 use Rattle.move_table.proofs.Offs.{off-end, rows-stop, rows-step}
 use Rattle.move_table.proofs.Rows.{row-length, table-length, table-part}
-use Rattle.move_table.proofs.Six.{row-fits, rows-done}
+use Rattle.move_table.proofs.Bounds.{row-fits, rows-done}
 use Rattle.move_table.proofs.inner.first_bad.Statement.{statement}
 use Rattle.move_table.proofs.inner.first_bad.Tie as tie
 

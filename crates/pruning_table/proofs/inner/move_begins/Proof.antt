@@ -1,5 +1,5 @@
 -- `pruning_table::inner::move_begins` meets its contract. Assumes nothing.
-use Rattle.move_table.proofs.Six.{the-sixth}
+use Rattle.move_row.proofs.Six.{the-sixth}
 use borrow.Author.Needs.{needs}
 use borrow.Author.Needs.{needs}
 use Rattle.pruning_table.proofs.inner.move_begins.Statement.{statement}

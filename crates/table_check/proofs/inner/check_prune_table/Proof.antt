@@ -8,8 +8,8 @@ use borrow.Author.Needs.{needs}
 use borrow.Author.Needs.{needs}
 use Rattle.table_check.proofs.inner.check_prune_table.Statement.{statement}
 use Rattle.table_check.proofs.inner.check_prune_table.Tie as tie
-use Rattle.move_table.proofs.inner.columns_of.Reads as columns-of-reads
-use Rattle.move_table.proofs.inner.rows_of.Reads as rows-of-reads
+use Rattle.move_row.proofs.inner.columns_of.Reads as columns-of-reads
+use Rattle.move_row.proofs.inner.rows_of.Reads as rows-of-reads
 use Rattle.table_check.proofs.inner.first_bad.Reads as first-bad-reads
 use Rattle.pruning_table.proofs.inner.first_of.Reads as first-of-reads
 use Rattle.pruning_table.proofs.inner.move_begins.Reads as move-begins-reads

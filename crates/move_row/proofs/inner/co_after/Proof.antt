@@ -1,0 +1,93 @@
+-- `move_row::inner::co_after` meets its contract. Assumes nothing.
+use mathlib.Core.Path.{sym, ap, ap₂, subst, _∙_}
+use mathlib.Core.List.{List}
+use Prim.Native.Nat.{ℕ}
+use native.Mathlib.Omega.{arith}
+use denote.Ref.{now}
+use lib.ListN.{length}
+use Rattle.base.specs.Lists.{Under}
+use Rattle.base.specs.Product.{twisted}
+use Rattle.cubie.proofs.Turns.{move-range}
+use Rattle.numbering.specs.Coordinates.{coNumber}
+use Rattle.move_row.proofs.After.{co-under, moved-co, twists-under}
+use Rattle.move_row.proofs.Cubes.{all-cubes, corners-at, twists-at}
+use borrow.Author.Needs.{needs}
+use Rattle.move_row.proofs.inner.co_after.Statement.{statement}
+use Rattle.move_row.proofs.inner.co_after.Tie as tie
+
+mul-at : tie.Need-mul-at
+mul-at c = search needs
+
+add-twist : tie.Need-add-twist
+add-twist c = search needs
+
+sub-twist : tie.Need-sub-twist
+sub-twist c = search needs
+
+part-twist-start : tie.Need-part-twist-start
+part-twist-start c = search needs
+
+part-twist-end : tie.Need-part-twist-end
+part-twist-end c = omega (arith, all-cubes (now (c .before .before .args .cubes)) (c .before .before .pre .1))
+
+add-twist-2 : tie.Need-add-twist-2
+add-twist-2 c = search needs
+
+add-twist-3 : tie.Need-add-twist-3
+add-twist-3 c = search needs
+
+sub-twist-2 : tie.Need-sub-twist-2
+sub-twist-2 c = search needs
+
+part-twist-start-2 : tie.Need-part-twist-start-2
+part-twist-start-2 c = search needs
+
+part-twist-end-2 : tie.Need-part-twist-end-2
+part-twist-end-2 c = omega (arith, all-cubes (now (c .before .before .before .args .cubes)) (c .before .before .before .pre .1))
+
+slice-aggregate-twist : tie.Need-slice-aggregate-twist
+slice-aggregate-twist c = search needs
+
+twist-requires : tie.Need-twist-requires
+twist-requires c κs =
+    let a = c .before .before .before .before .before .args in
+    let p = c .before .before .before .before .before .pre in
+    let q = corners-at (now (a .cubes)) (p .1) (a .m) (p .2) in
+    let s = twists-at (now (a .cubes)) (p .1) (a .m) (p .2) in
+    let r = move-range (a .m) (p .2) in (
+      (ap length q ∙ r .cp .size, ap length s ∙ r .co .size),
+      (rw (q, p .0 .places) (r .cp .small), (co-under (p .0), rw s (r .co .small), omega arith, omega arith)),
+    )
+
+co-to-index-requires : tie.Need-co-to-index-requires
+co-to-index-requires c κs =
+    let a = c .before .before .before .before .before .before .before .args in
+    let p = c .before .before .before .before .before .before .before .pre in
+    let e = c .before .twist .ensures ∙ ap₂ (twisted 3 (now (a .a))) (corners-at (now (a .cubes)) (p .1) (a .m) (p .2)) (twists-at (now (a .cubes)) (p .1) (a .m) (p .2)) in
+    subst (λ (l : List ℕ). Under 3 l) (sym e) (twists-under (now (a .a)) (a .m) (p .2))
+
+returns : tie.Need-returns
+returns c =
+    let a = c .before .before .before .before .before .before .before .before .args in
+    let p = c .before .before .before .before .before .before .before .before .pre in
+    let e = c .before .before .twist .ensures ∙ ap₂ (twisted 3 (now (a .a))) (corners-at (now (a .cubes)) (p .1) (a .m) (p .2)) (twists-at (now (a .cubes)) (p .1) (a .m) (p .2)) in
+    c .co-to-index .ensures ∙ ap coNumber e ∙ sym (moved-co (now (a .a)) (a .m))
+
+pub co-after-spec : {M : Type 1} → statement M
+co-after-spec =
+    tie.close
+    (tie.spec
+    mul-at
+    add-twist
+    sub-twist
+    part-twist-start
+    part-twist-end
+    add-twist-2
+    add-twist-3
+    sub-twist-2
+    part-twist-start-2
+    part-twist-end-2
+    slice-aggregate-twist
+    twist-requires
+    co-to-index-requires
+    returns)
