@@ -1,9 +1,8 @@
--- The coordinate of an arrangement after a move, for each of the six: which lists of the move it is made from, and that the result is in the domain of the
--- function that numbers it. Assumes nothing.
+-- The coordinate of an arrangement after a move, for each of the six: which lists of the move it is made from; and that the edges keep four below 4.
+-- Assumes nothing.
 use mathlib.Core.Path.{_≡_, refl, subst, _∙_}
 use mathlib.Core.List.{List}
 use Prim.Native.Nat.{ℕ, _<_}
-use native.Mathlib.Omega.{arith}
 use lib.Dec.{eqb}
 use lib.ListN.{getD}
 use borrow.Author.Tests.{eqb-true}
@@ -12,7 +11,6 @@ use Rattle.base.specs.Perm.{less, below, Perm}
 use Rattle.base.specs.Product.{compose, twisted}
 use Rattle.base.proofs.Parity.{total-places}
 use Rattle.base.proofs.Perm.{total-map}
-use Rattle.base.proofs.Product.{twisted-sized}
 use Rattle.base.proofs.Tests.{inRange-under}
 use Rattle.cubie.specs.Cube.{product, moveOf}
 use Rattle.cubie.specs.declared.CubieCube.{CubieCube}
@@ -63,12 +61,6 @@ module _ (xs : List ℕ) (m : ℕ) where
   moved-e = refl
 
   module _ (h : m < 18) where
-    pub twists-under : Under 3 (twisted 3 xs (moveOf m .cp) (moveOf m .co))
-    twists-under = twisted-sized xs (omega arith) (move-range m h .cp) (move-range m h .co) .small
-
-    pub flips-under : Under 2 (twisted 2 xs (moveOf m .ep) (moveOf m .eo))
-    flips-under = twisted-sized xs (omega arith) (move-range m h .ep) (move-range m h .eo) .small
-
     -- the edges below 4 are as many as before
     pub four-below : Domain eCombo xs → below 4 (compose xs (moveOf m .ep)) ≡ 4
     four-below d =

@@ -2,3 +2,4 @@
 pub mod After
 pub mod Cubes
 pub mod Six
+pub mod Twists

@@ -1,16 +1,11 @@
 -- `move_row::inner::co_after` meets its contract. Assumes nothing.
-use mathlib.Core.Path.{sym, ap, ap₂, subst, _∙_}
-use mathlib.Core.List.{List}
-use Prim.Native.Nat.{ℕ}
+use mathlib.Core.Path.{sym, ap, _∙_}
 use native.Mathlib.Omega.{arith}
 use denote.Ref.{now}
-use lib.ListN.{length}
-use Rattle.base.specs.Lists.{Under}
-use Rattle.base.specs.Product.{twisted}
-use Rattle.cubie.proofs.Turns.{move-range}
 use Rattle.numbering.specs.Coordinates.{coNumber}
-use Rattle.move_row.proofs.After.{co-under, moved-co, twists-under}
-use Rattle.move_row.proofs.Cubes.{all-cubes, corners-at, twists-at}
+use Rattle.move_row.proofs.After.{co-under, moved-co}
+use Rattle.move_row.proofs.Cubes.{all-cubes}
+use Rattle.move_row.proofs.Twists.{corners-lent, twist-fits, twist-leaves, twist-under}
 use borrow.Author.Needs.{needs}
 use Rattle.move_row.proofs.inner.co_after.Statement.{statement}
 use Rattle.move_row.proofs.inner.co_after.Tie as tie
@@ -52,26 +47,21 @@ twist-requires : tie.Need-twist-requires
 twist-requires c κs =
     let a = c .before .before .before .before .before .args in
     let p = c .before .before .before .before .before .pre in
-    let q = corners-at (now (a .cubes)) (p .1) (a .m) (p .2) in
-    let s = twists-at (now (a .cubes)) (p .1) (a .m) (p .2) in
-    let r = move-range (a .m) (p .2) in (
-      (ap length q ∙ r .cp .size, ap length s ∙ r .co .size),
-      (rw (q, p .0 .places) (r .cp .small), (co-under (p .0), rw s (r .co .small), omega arith, omega arith)),
-    )
+    twist-fits (corners-lent (now (a .cubes)) (p .1) (a .m) (p .2)) (now (a .a)) (p .0 .places) (co-under (p .0))
 
 co-to-index-requires : tie.Need-co-to-index-requires
 co-to-index-requires c κs =
     let a = c .before .before .before .before .before .before .before .args in
     let p = c .before .before .before .before .before .before .before .pre in
-    let e = c .before .twist .ensures ∙ ap₂ (twisted 3 (now (a .a))) (corners-at (now (a .cubes)) (p .1) (a .m) (p .2)) (twists-at (now (a .cubes)) (p .1) (a .m) (p .2)) in
-    subst (λ (l : List ℕ). Under 3 l) (sym e) (twists-under (now (a .a)) (a .m) (p .2))
+    twist-under (corners-lent (now (a .cubes)) (p .1) (a .m) (p .2)) (now (a .a)) (c .before .twist .ensures)
 
 returns : tie.Need-returns
 returns c =
     let a = c .before .before .before .before .before .before .before .before .args in
     let p = c .before .before .before .before .before .before .before .before .pre in
-    let e = c .before .before .twist .ensures ∙ ap₂ (twisted 3 (now (a .a))) (corners-at (now (a .cubes)) (p .1) (a .m) (p .2)) (twists-at (now (a .cubes)) (p .1) (a .m) (p .2)) in
-    c .co-to-index .ensures ∙ ap coNumber e ∙ sym (moved-co (now (a .a)) (a .m))
+    c .co-to-index .ensures
+    ∙ ap coNumber (twist-leaves (corners-lent (now (a .cubes)) (p .1) (a .m) (p .2)) (now (a .a)) (c .before .before .twist .ensures))
+    ∙ sym (moved-co (now (a .a)) (a .m))
 
 pub co-after-spec : {M : Type 1} → statement M
 co-after-spec =

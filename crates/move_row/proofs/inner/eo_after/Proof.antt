@@ -1,16 +1,11 @@
 -- `move_row::inner::eo_after` meets its contract. Assumes nothing.
-use mathlib.Core.Path.{sym, ap, ap₂, subst, _∙_}
-use mathlib.Core.List.{List}
-use Prim.Native.Nat.{ℕ}
+use mathlib.Core.Path.{sym, ap, _∙_}
 use native.Mathlib.Omega.{arith}
 use denote.Ref.{now}
-use lib.ListN.{length}
-use Rattle.base.specs.Lists.{Under}
-use Rattle.base.specs.Product.{twisted}
-use Rattle.cubie.proofs.Turns.{move-range}
 use Rattle.numbering.specs.Coordinates.{eoNumber}
-use Rattle.move_row.proofs.After.{eo-under, moved-eo, flips-under}
-use Rattle.move_row.proofs.Cubes.{all-cubes, edges-at, flips-at}
+use Rattle.move_row.proofs.After.{eo-under, moved-eo}
+use Rattle.move_row.proofs.Cubes.{all-cubes}
+use Rattle.move_row.proofs.Twists.{edges-lent, twist-fits, twist-leaves, twist-under}
 use borrow.Author.Needs.{needs}
 use Rattle.move_row.proofs.inner.eo_after.Statement.{statement}
 use Rattle.move_row.proofs.inner.eo_after.Tie as tie
@@ -55,26 +50,21 @@ twist-requires : tie.Need-twist-requires
 twist-requires c κs =
     let a = c .before .before .before .before .before .args in
     let p = c .before .before .before .before .before .pre in
-    let q = edges-at (now (a .cubes)) (p .1) (a .m) (p .2) in
-    let s = flips-at (now (a .cubes)) (p .1) (a .m) (p .2) in
-    let r = move-range (a .m) (p .2) in (
-      (ap length q ∙ r .ep .size, ap length s ∙ r .eo .size),
-      (rw (q, p .0 .places) (r .ep .small), (eo-under (p .0), rw s (r .eo .small), omega arith, omega arith)),
-    )
+    twist-fits (edges-lent (now (a .cubes)) (p .1) (a .m) (p .2)) (now (a .a)) (p .0 .places) (eo-under (p .0))
 
 eo-to-index-requires : tie.Need-eo-to-index-requires
 eo-to-index-requires c κs =
     let a = c .before .before .before .before .before .before .before .args in
     let p = c .before .before .before .before .before .before .before .pre in
-    let e = c .before .twist .ensures ∙ ap₂ (twisted 2 (now (a .a))) (edges-at (now (a .cubes)) (p .1) (a .m) (p .2)) (flips-at (now (a .cubes)) (p .1) (a .m) (p .2)) in
-    subst (λ (l : List ℕ). Under 2 l) (sym e) (flips-under (now (a .a)) (a .m) (p .2))
+    twist-under (edges-lent (now (a .cubes)) (p .1) (a .m) (p .2)) (now (a .a)) (c .before .twist .ensures)
 
 returns : tie.Need-returns
 returns c =
     let a = c .before .before .before .before .before .before .before .before .args in
     let p = c .before .before .before .before .before .before .before .before .pre in
-    let e = c .before .before .twist .ensures ∙ ap₂ (twisted 2 (now (a .a))) (edges-at (now (a .cubes)) (p .1) (a .m) (p .2)) (flips-at (now (a .cubes)) (p .1) (a .m) (p .2)) in
-    c .eo-to-index .ensures ∙ ap eoNumber e ∙ sym (moved-eo (now (a .a)) (a .m))
+    c .eo-to-index .ensures
+    ∙ ap eoNumber (twist-leaves (edges-lent (now (a .cubes)) (p .1) (a .m) (p .2)) (now (a .a)) (c .before .before .twist .ensures))
+    ∙ sym (moved-eo (now (a .a)) (a .m))
 
 pub eo-after-spec : {M : Type 1} → statement M
 eo-after-spec =
