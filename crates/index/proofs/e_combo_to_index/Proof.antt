@@ -7,20 +7,8 @@ use borrow.Author.Needs.{needs}
 use Rattle.index.proofs.e_combo_to_index.Statement.{statement}
 use Rattle.index.proofs.e_combo_to_index.Tie as tie
 
-slice-aggregate-in-range : tie.Need-slice-aggregate-in-range
-slice-aggregate-in-range c = search needs
-
-in-range-requires : tie.Need-in-range-requires
-in-range-requires c κs = search needs
-
 returns : tie.Need-returns
 returns c = rw (failed (c .before .in-range .ensures) (c .if1 .taken))
-
-slice-aggregate-count-below-4 : tie.Need-slice-aggregate-count-below-4
-slice-aggregate-count-below-4 c = search needs
-
-count-below-4-requires : tie.Need-count-below-4-requires
-count-below-4-requires c κs = search needs
 
 returns-2 : tie.Need-returns-2
 returns-2 c =
@@ -28,9 +16,6 @@ returns-2 c =
     let edge = c .before .before .before .before .before .before .args .t1 in
     let f = ne-eqb (below 4 edge) 4 (λ q. c .if2 .taken (c .before .count-below-4 .ensures ∙ q)) in
     rw (e, f)
-
-e-combo-to-index-requires : tie.Need-e-combo-to-index-requires
-e-combo-to-index-requires c κs = search needs
 
 returns-3 : tie.Need-returns-3
 returns-3 c =
@@ -43,11 +28,11 @@ pub e-combo-to-index-spec : {M : Type 1} → statement M
 e-combo-to-index-spec =
     tie.close
     (tie.spec
-    slice-aggregate-in-range
-    in-range-requires
+    (λ c. search needs)
+    (λ c κs. search needs)
     returns
-    slice-aggregate-count-below-4
-    count-below-4-requires
+    (λ c. search needs)
+    (λ c κs. search needs)
     returns-2
-    e-combo-to-index-requires
+    (λ c κs. search needs)
     returns-3)

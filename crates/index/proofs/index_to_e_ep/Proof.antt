@@ -4,18 +4,12 @@ use borrow.Author.Needs.{needs}
 use Rattle.index.proofs.index_to_e_ep.Statement.{statement}
 use Rattle.index.proofs.index_to_e_ep.Tie as tie
 
-edges-refused-requires : tie.Need-edges-refused-requires
-edges-refused-requires c κs = search needs
-
 returns : tie.Need-returns
 returns c = rw (le-ltb _ _ (c .before .if1 .taken), c .edges-refused .ensures)
-
-index-to-e-ep-requires : tie.Need-index-to-e-ep-requires
-index-to-e-ep-requires c κs = search needs
 
 returns-2 : tie.Need-returns-2
 returns-2 c = rw (lt-ltb _ _ (c .before .if1 .left), c .index-to-e-ep .ensures)
 
 pub index-to-e-ep-spec : {M : Type 1} → statement M
 index-to-e-ep-spec =
-    tie.close (tie.spec edges-refused-requires returns index-to-e-ep-requires returns-2)
+    tie.close (tie.spec (λ c κs. search needs) returns (λ c κs. search needs) returns-2)

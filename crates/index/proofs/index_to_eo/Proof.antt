@@ -3,21 +3,13 @@ use borrow.Author.Tests.{le-ltb, lt-ltb}
 use borrow.Author.Needs.{needs}
 use Rattle.index.proofs.index_to_eo.Statement.{statement}
 use Rattle.index.proofs.index_to_eo.Tie as tie
-use Rattle.index.proofs.edges_refused.Reads as edges-refused-reads
-use Rattle.numbering.proofs.inner.index_to_eo.Reads as index-to-eo-reads
-
-edges-refused-requires : tie.Need-edges-refused-requires
-edges-refused-requires c κs = search needs
 
 returns : tie.Need-returns
 returns c = rw (le-ltb _ _ (c .before .if1 .taken), c .edges-refused .ensures)
-
-index-to-eo-requires : tie.Need-index-to-eo-requires
-index-to-eo-requires c κs = search needs
 
 returns-2 : tie.Need-returns-2
 returns-2 c = rw (lt-ltb _ _ (c .before .if1 .left), c .index-to-eo .ensures)
 
 pub index-to-eo-spec : {M : Type 1} → statement M
 index-to-eo-spec =
-    tie.close (tie.spec edges-refused-requires returns index-to-eo-requires returns-2)
+    tie.close (tie.spec (λ c κs. search needs) returns (λ c κs. search needs) returns-2)

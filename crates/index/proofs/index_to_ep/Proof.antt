@@ -7,17 +7,8 @@ use borrow.Author.Needs.{needs}
 use Rattle.index.proofs.index_to_ep.Statement.{statement}
 use Rattle.index.proofs.index_to_ep.Tie as tie
 
-edges-refused-requires : tie.Need-edges-refused-requires
-edges-refused-requires c κs = search needs
-
 returns : tie.Need-returns
 returns c = rw (le-ltb _ _ (c .before .if1 .taken), c .edges-refused .ensures)
-
-slice-aggregate-fill-perm-slice : tie.Need-slice-aggregate-fill-perm-slice
-slice-aggregate-fill-perm-slice c = search needs
-
-fill-perm-slice-requires : tie.Need-fill-perm-slice-requires
-fill-perm-slice-requires c κs = search needs
 
 returns-2 : tie.Need-returns-2
 returns-2 c =
@@ -28,8 +19,8 @@ pub index-to-ep-spec : {M : Type 1} → statement M
 index-to-ep-spec =
     tie.close
     (tie.spec
-    edges-refused-requires
+    (λ c κs. search needs)
     returns
-    slice-aggregate-fill-perm-slice
-    fill-perm-slice-requires
+    (λ c. search needs)
+    (λ c κs. search needs)
     returns-2)
