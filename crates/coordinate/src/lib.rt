@@ -140,20 +140,28 @@ fn edge_places(kind: u8, n: u32) -> Edges
 }
 
 // The refusal of an answer, 0 for none; its places are written, unless it is refused.
+fn leave_places(verdict: Verdict, places: &[u8], out: &mut [u8]) -> u8
+    requires { ⌜ length (now places) ≡ length (now out) ⌝ }
+    ensures { λ r. ⌜ r ≡ verdictNumber verdict ⌝ }
+    ensures { λ r. ⌜ now (out .exit) ≡ verdictLeft verdict (now (places .entry)) (now (out .entry)) ⌝ }
+{
+    match verdict {
+        Verdict::Refused(n) => n,
+        Verdict::Good => {
+            copy_in(places, out, 0);
+            0
+        }
+    }
+}
+
 fn leave_corners(a: Corners, out: &mut [u8]) -> u8
     requires { ⌜ length (now out) ≡ 8 ⌝ }
     ensures { λ r. ⌜ r ≡ verdictNumber (a .verdict) ⌝ }
     ensures { λ r. ⌜ now (out .exit) ≡ verdictLeft (a .verdict) (a .places) (now (out .entry)) ⌝ }
 {
+    let places = a.places;
     let verdict = a.verdict;
-    match verdict {
-        Verdict::Refused(n) => n,
-        Verdict::Good => {
-            let places = a.places;
-            copy_in(&places, out, 0);
-            0
-        }
-    }
+    leave_places(verdict, &places, out)
 }
 
 fn leave_edges(a: Edges, out: &mut [u8]) -> u8
@@ -161,15 +169,9 @@ fn leave_edges(a: Edges, out: &mut [u8]) -> u8
     ensures { λ r. ⌜ r ≡ verdictNumber (a .verdict) ⌝ }
     ensures { λ r. ⌜ now (out .exit) ≡ verdictLeft (a .verdict) (a .places) (now (out .entry)) ⌝ }
 {
+    let places = a.places;
     let verdict = a.verdict;
-    match verdict {
-        Verdict::Refused(n) => n,
-        Verdict::Good => {
-            let places = a.places;
-            copy_in(&places, out, 0);
-            0
-        }
-    }
+    leave_places(verdict, &places, out)
 }
 
 fn leave_found(found: Found, out: &mut u32) -> u8

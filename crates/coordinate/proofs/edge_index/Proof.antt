@@ -6,63 +6,6 @@ use borrow.Author.Needs.{needs}
 use Rattle.coordinate.proofs.edge_index.Statement.{statement}
 use Rattle.coordinate.proofs.edge_index.Tie as tie
 
-eo-to-index-requires : tie.Need-eo-to-index-requires
-eo-to-index-requires c κs = search needs
-
-enum-known-n : tie.Need-enum-known-n
-enum-known-n c = search needs
-
-cast-t16 : tie.Need-cast-t16
-cast-t16 c = search needs
-
-enum-known-n-2 : tie.Need-enum-known-n-2
-enum-known-n-2 c = search needs
-
-e-combo-to-index-requires : tie.Need-e-combo-to-index-requires
-e-combo-to-index-requires c κs = search needs
-
-enum-known-n-3 : tie.Need-enum-known-n-3
-enum-known-n-3 c = search needs
-
-cast-t19 : tie.Need-cast-t19
-cast-t19 c = search needs
-
-enum-known-n-4 : tie.Need-enum-known-n-4
-enum-known-n-4 c = search needs
-
-ud-ep-to-index-requires : tie.Need-ud-ep-to-index-requires
-ud-ep-to-index-requires c κs = search needs
-
-enum-known-n-5 : tie.Need-enum-known-n-5
-enum-known-n-5 c = search needs
-
-cast-t22 : tie.Need-cast-t22
-cast-t22 c = search needs
-
-enum-known-n-6 : tie.Need-enum-known-n-6
-enum-known-n-6 c = search needs
-
-e-ep-to-index-requires : tie.Need-e-ep-to-index-requires
-e-ep-to-index-requires c κs = search needs
-
-enum-known-n-7 : tie.Need-enum-known-n-7
-enum-known-n-7 c = search needs
-
-cast-t25 : tie.Need-cast-t25
-cast-t25 c = search needs
-
-enum-known-n-8 : tie.Need-enum-known-n-8
-enum-known-n-8 c = search needs
-
-ep-to-index-requires : tie.Need-ep-to-index-requires
-ep-to-index-requires c κs = search needs
-
-enum-known-n-9 : tie.Need-enum-known-n-9
-enum-known-n-9 c = search needs
-
-enum-known-n-10 : tie.Need-enum-known-n-10
-enum-known-n-10 c = search needs
-
 returns : tie.Need-returns
 returns c = rw (c .before .before .before .before .before .match .keys1) (eo-found (c .before .before .before .before .before .before .args .a) (c .before .before .n .given .1) (c .before .before .before .before .eo-to-index .ensures))
 
@@ -101,25 +44,25 @@ pub edge-index-spec : {M : Type 1} → statement M
 edge-index-spec =
     tie.close
     (tie.spec
-    eo-to-index-requires
-    enum-known-n
-    cast-t16
-    enum-known-n-2
-    e-combo-to-index-requires
-    enum-known-n-3
-    cast-t19
-    enum-known-n-4
-    ud-ep-to-index-requires
-    enum-known-n-5
-    cast-t22
-    enum-known-n-6
-    e-ep-to-index-requires
-    enum-known-n-7
-    cast-t25
-    enum-known-n-8
-    ep-to-index-requires
-    enum-known-n-9
-    enum-known-n-10
+    (λ c κs. search needs)
+    (λ c. search needs)
+    (λ c. search needs)
+    (λ c. search needs)
+    (λ c κs. search needs)
+    (λ c. search needs)
+    (λ c. search needs)
+    (λ c. search needs)
+    (λ c κs. search needs)
+    (λ c. search needs)
+    (λ c. search needs)
+    (λ c. search needs)
+    (λ c κs. search needs)
+    (λ c. search needs)
+    (λ c. search needs)
+    (λ c. search needs)
+    (λ c κs. search needs)
+    (λ c. search needs)
+    (λ c. search needs)
     returns
     returns-2
     returns-3

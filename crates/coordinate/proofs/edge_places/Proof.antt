@@ -7,33 +7,6 @@ use borrow.Author.Needs.{needs}
 use Rattle.coordinate.proofs.edge_places.Statement.{statement}
 use Rattle.coordinate.proofs.edge_places.Tie as tie
 
-narrow-requires : tie.Need-narrow-requires
-narrow-requires c κs = search needs
-
-index-to-eo-requires : tie.Need-index-to-eo-requires
-index-to-eo-requires c κs = search needs
-
-narrow-requires-2 : tie.Need-narrow-requires-2
-narrow-requires-2 c κs = search needs
-
-index-to-e-combo-requires : tie.Need-index-to-e-combo-requires
-index-to-e-combo-requires c κs = search needs
-
-narrow-requires-3 : tie.Need-narrow-requires-3
-narrow-requires-3 c κs = search needs
-
-index-to-ud-ep-requires : tie.Need-index-to-ud-ep-requires
-index-to-ud-ep-requires c κs = search needs
-
-narrow-requires-4 : tie.Need-narrow-requires-4
-narrow-requires-4 c κs = search needs
-
-index-to-e-ep-requires : tie.Need-index-to-e-ep-requires
-index-to-e-ep-requires c κs = search needs
-
-index-to-ep-requires : tie.Need-index-to-ep-requires
-index-to-ep-requires c κs = search needs
-
 returns : tie.Need-returns
 returns c = rw (c .before .before .match .keys1) (c .index-to-eo .ensures ∙ edges-narrow eo (c .before .before .before .args .n) (c .before .narrow .result) (omega arith) (c .before .narrow .ensures))
 
@@ -55,15 +28,15 @@ pub edge-places-spec : {M : Type 1} → statement M
 edge-places-spec =
     tie.close
     (tie.spec
-    narrow-requires
-    index-to-eo-requires
-    narrow-requires-2
-    index-to-e-combo-requires
-    narrow-requires-3
-    index-to-ud-ep-requires
-    narrow-requires-4
-    index-to-e-ep-requires
-    index-to-ep-requires
+    (λ c κs. search needs)
+    (λ c κs. search needs)
+    (λ c κs. search needs)
+    (λ c κs. search needs)
+    (λ c κs. search needs)
+    (λ c κs. search needs)
+    (λ c κs. search needs)
+    (λ c κs. search needs)
+    (λ c κs. search needs)
     returns
     returns-2
     returns-3

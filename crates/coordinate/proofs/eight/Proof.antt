@@ -7,14 +7,8 @@ use borrow.Author.Needs.{needs}
 use Rattle.coordinate.proofs.eight.Statement.{statement}
 use Rattle.coordinate.proofs.eight.Tie as tie
 
-slice-aggregate-copy-in : tie.Need-slice-aggregate-copy-in
-slice-aggregate-copy-in c = search needs
-
-copy-in-requires : tie.Need-copy-in-requires
-copy-in-requires c κs = search needs
-
 returns : tie.Need-returns
 returns c = c .before .copy-in .ensures ∙ paste-whole (replicate 8 0) (now (c .before .before .before .before .args .s)) (c .before .before .before .before .pre)
 
 pub eight-spec : {M : Type 1} → statement M
-eight-spec = tie.close (tie.spec slice-aggregate-copy-in copy-in-requires returns)
+eight-spec = tie.close (tie.spec (λ c. search needs) (λ c κs. search needs) returns)

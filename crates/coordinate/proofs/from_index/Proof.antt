@@ -18,9 +18,6 @@ returns c =
     let s = now (c .before .before .args .places) in
     arrange-unfit k s (c .before .before .args .n) (no-kind k s (c .if1 .taken))
 
-places-of-requires : tie.Need-places-of-requires
-places-of-requires c κs = search needs
-
 returns-2 : tie.Need-returns-2
 returns-2 c =
     let k = c .before .before .before .before .args .kind in
@@ -28,15 +25,6 @@ returns-2 c =
     let h : k < 7 = omega (arith, c .before .before .if1 .left) in
     let n = c .before .before .before .before .args .n in
     arrange-unfit k s n (other-size k s h (λ e. c .if2 .taken (e ∙ sym (c .before .places-of .ensures))))
-
-corner-places-requires : tie.Need-corner-places-requires
-corner-places-requires c κs = search needs
-
-leave-corners-requires : tie.Need-leave-corners-requires
-leave-corners-requires c κs = search needs
-
-same-length : tie.Need-same-length
-same-length c = search needs
 
 returns-3 : tie.Need-returns-3
 returns-3 c =
@@ -63,9 +51,6 @@ leave-edges-requires c κs =
     let h : k < 7 = omega (arith, c .before .before .before .before .before .if1 .left) in
     edge-places k (length s) h (c .before .before .before .if2 .left ∙ c .before .before .before .before .places-of .ensures) (c .before .before .if3 .left)
 
-same-length-2 : tie.Need-same-length-2
-same-length-2 c = search needs
-
 returns-4 : tie.Need-returns-4
 returns-4 c =
     let k = c .before .before .before .before .before .before .before .before .before .before .args .kind in
@@ -80,13 +65,13 @@ from-index-spec =
     tie.close
     (tie.spec
     returns
-    places-of-requires
+    (λ c κs. search needs)
     returns-2
-    corner-places-requires
-    leave-corners-requires
-    same-length
+    (λ c κs. search needs)
+    (λ c κs. search needs)
+    (λ c. search needs)
     returns-3
     edge-places-requires
     leave-edges-requires
-    same-length-2
+    (λ c. search needs)
     returns-4)

@@ -1,50 +1,18 @@
--- `coordinate::leave_corners` meets its contract: the copy covers all that is lent. Assumes nothing.
-use mathlib.Core.Path.{_≡_, refl, sym, _∙_}
-use Prim.Native.Nat.{_≤_, _+_}
-use native.Mathlib.Omega.{arith}
-use denote.Ref.{now}
+-- `coordinate::leave_corners` meets its contract. Assumes nothing.
+use mathlib.Core.Path.{_≡_, sym, _∙_}
 use lib.ListN.{length}
-use Rattle.base.proofs.Steps.{paste-whole}
-use Rattle.moves.specs.declared.Verdict.the-variants.{Good}
 use borrow.Author.Needs.{needs}
 use Rattle.coordinate.proofs.leave_corners.Statement.{statement}
 use Rattle.coordinate.proofs.leave_corners.Tie as tie
 
-enum-known-verdict : tie.Need-enum-known-verdict
-enum-known-verdict c = search needs
-
-enum-told : tie.Need-enum-told
-enum-told c = search needs
-
-slice-aggregate-copy-in : tie.Need-slice-aggregate-copy-in
-slice-aggregate-copy-in c = search needs
-
-copy-in-requires : tie.Need-copy-in-requires
-copy-in-requires c κs =
-    let l : length (c .before .before .before .before .before .before .args .a .places) ≡ 8 = search needs in
-    let h : 0 + length (c .before .before .before .before .before .before .args .a .places) ≤ length (now (c .before .before .before .before .before .before .args .out)) = omega (arith, c .before .before .before .before .before .before .pre) in
-    h
+leave-places-requires : tie.Need-leave-places-requires
+leave-places-requires c κs =
+    let l : length (c .before .before .before .before .args .a .places) ≡ 8 = search needs in
+    l ∙ sym (c .before .before .before .before .pre)
 
 returns : tie.Need-returns
 returns c = search needs
 
-same-length : tie.Need-same-length
-same-length c = search needs
-
-returns-2 : tie.Need-returns-2
-returns-2 c =
-    let l : length (c .before .before .before .before .before .before .before .before .before .args .a .places) ≡ 8 = search needs in
-    let e : c .before .before .before .before .before .before .before .before .before .args .a .verdict ≡ Good = c .before .before .before .before .before .before .enum-told .given .1 in
-    rw e (refl, c .before .before .copy-in .ensures ∙ paste-whole (now (c .before .before .before .before .before .before .before .before .before .args .out)) (c .before .before .before .before .before .before .before .before .before .args .a .places) (l ∙ sym (c .before .before .before .before .before .before .before .before .before .pre)))
-
 pub leave-corners-spec : {M : Type 1} → statement M
 leave-corners-spec =
-    tie.close
-    (tie.spec
-    enum-known-verdict
-    enum-told
-    slice-aggregate-copy-in
-    copy-in-requires
-    returns
-    same-length
-    returns-2)
+    tie.close (tie.spec (λ c. search needs) leave-places-requires (λ c. search needs) returns)

@@ -16,24 +16,12 @@ returns c =
     let s = now (c .before .before .args .places) in
     index-unfit k s (now (c .before .before .args .number)) (no-kind k s (c .if1 .taken))
 
-places-of-requires : tie.Need-places-of-requires
-places-of-requires c κs = search needs
-
 returns-2 : tie.Need-returns-2
 returns-2 c =
     let k = c .before .before .before .before .args .kind in
     let s = now (c .before .before .before .before .args .places) in
     let h : k < 7 = omega (arith, c .before .before .if1 .left) in
     index-unfit k s (now (c .before .before .before .before .args .number)) (other-size k s h (λ e. c .if2 .taken (e ∙ sym (c .before .places-of .ensures))))
-
-eight-requires : tie.Need-eight-requires
-eight-requires c κs = search needs
-
-corner-index-requires : tie.Need-corner-index-requires
-corner-index-requires c κs = search needs
-
-leave-found-requires : tie.Need-leave-found-requires
-leave-found-requires c κs = search needs
 
 returns-3 : tie.Need-returns-3
 returns-3 c =
@@ -59,9 +47,6 @@ edge-index-requires c κs =
     let h : k < 7 = omega (arith, c .before .before .before .before .if1 .left) in
     (h, edge-kind k (length s) h (c .before .before .if2 .left ∙ c .before .before .before .places-of .ensures) (c .before .if3 .left))
 
-leave-found-requires-2 : tie.Need-leave-found-requires-2
-leave-found-requires-2 c κs = search needs
-
 returns-4 : tie.Need-returns-4
 returns-4 c =
     let k = c .before .before .before .before .before .before .before .before .before .args .kind in
@@ -77,13 +62,13 @@ to-index-spec =
     tie.close
     (tie.spec
     returns
-    places-of-requires
+    (λ c κs. search needs)
     returns-2
-    eight-requires
-    corner-index-requires
-    leave-found-requires
+    (λ c κs. search needs)
+    (λ c κs. search needs)
+    (λ c κs. search needs)
     returns-3
     twelve-requires
     edge-index-requires
-    leave-found-requires-2
+    (λ c κs. search needs)
     returns-4)

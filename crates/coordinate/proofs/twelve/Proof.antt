@@ -7,14 +7,8 @@ use borrow.Author.Needs.{needs}
 use Rattle.coordinate.proofs.twelve.Statement.{statement}
 use Rattle.coordinate.proofs.twelve.Tie as tie
 
-slice-aggregate-copy-in : tie.Need-slice-aggregate-copy-in
-slice-aggregate-copy-in c = search needs
-
-copy-in-requires : tie.Need-copy-in-requires
-copy-in-requires c κs = search needs
-
 returns : tie.Need-returns
 returns c = c .before .copy-in .ensures ∙ paste-whole (replicate 12 0) (now (c .before .before .before .before .args .s)) (c .before .before .before .before .pre)
 
 pub twelve-spec : {M : Type 1} → statement M
-twelve-spec = tie.close (tie.spec slice-aggregate-copy-in copy-in-requires returns)
+twelve-spec = tie.close (tie.spec (λ c. search needs) (λ c κs. search needs) returns)
