@@ -5,7 +5,6 @@ use denote.Ref.{now}
 use lib.ListN.{length-set}
 use borrow.Author.Tests.{eq-eqb, ne-eqb}
 use Rattle.cubie.specs.Cube.{refusalOf, cubeOf}
-use Rattle.cubie.specs.Solvable.{cornerTwist, edgeTwist, cornerPerm, edgePerm}
 use Rattle.calls.proofs.Sizes.{four-bytes}
 use borrow.Author.Needs.{needs}
 use Rattle.calls.proofs.counts.Statement.{statement}
@@ -17,37 +16,16 @@ returns c = rw (ne-eqb _ 40 (c .if1 .taken)) (record { number = refl; bytes = re
 returns-2 : tie.Need-returns-2
 returns-2 c = rw (eq-eqb _ 40 (c .before .if1 .left), ne-eqb _ 4 (c .if2 .taken)) (record { number = refl; bytes = refl })
 
-cube-of-requires : tie.Need-cube-of-requires
-cube-of-requires c κs = search needs
-
-refusal-requires : tie.Need-refusal-requires
-refusal-requires c κs = search needs
-
 returns-3 : tie.Need-returns-3
 returns-3 c =
     let e = c .before .refusal .ensures ∙ ap refusalOf (c .before .before .cube-of .ensures) in
     rw (eq-eqb _ 40 (c .before .before .before .before .if1 .left), eq-eqb _ 4 (c .before .before .before .if2 .left), ne-eqb (refusalOf (cubeOf (now (c .before .before .before .before .before .before .before .args .cube)))) 0 (λ z. c .if3 .taken (e ∙ z))) (record { number = e; bytes = refl })
 
-count-corner-twist-requires : tie.Need-count-corner-twist-requires
-count-corner-twist-requires c κs = search needs
-
-slice-write-out : tie.Need-slice-write-out
-slice-write-out c = search needs
-
-count-edge-twist-requires : tie.Need-count-edge-twist-requires
-count-edge-twist-requires c κs = search needs
-
 slice-write-out-2 : tie.Need-slice-write-out-2
 slice-write-out-2 c = simp length-set (omega arith)
 
-count-corner-perm-requires : tie.Need-count-corner-perm-requires
-count-corner-perm-requires c κs = search needs
-
 slice-write-out-3 : tie.Need-slice-write-out-3
 slice-write-out-3 c = simp length-set (omega arith)
-
-count-edge-perm-requires : tie.Need-count-edge-perm-requires
-count-edge-perm-requires c κs = search needs
 
 slice-write-out-4 : tie.Need-slice-write-out-4
 slice-write-out-4 c = simp length-set (omega arith)
@@ -68,16 +46,16 @@ counts-spec =
     (tie.spec
     returns
     returns-2
-    cube-of-requires
-    refusal-requires
+    (λ c κs. search needs)
+    (λ c κs. search needs)
     returns-3
-    count-corner-twist-requires
-    slice-write-out
-    count-edge-twist-requires
+    (λ c κs. search needs)
+    (λ c. search needs)
+    (λ c κs. search needs)
     slice-write-out-2
-    count-corner-perm-requires
+    (λ c κs. search needs)
     slice-write-out-3
-    count-edge-perm-requires
+    (λ c κs. search needs)
     slice-write-out-4
     same-length
     returns-4)

@@ -8,19 +8,10 @@ use Rattle.calls.proofs.is_move_available.Tie as tie
 returns : tie.Need-returns
 returns c = rw (ne-eqb _ 1 (c .if1 .taken)) (record { number = refl; bytes = refl })
 
-is-move-available-requires : tie.Need-is-move-available-requires
-is-move-available-requires c κs = search needs
-
-leave-answer-requires : tie.Need-leave-answer-requires
-leave-answer-requires c κs = search needs
-
-same-length : tie.Need-same-length
-same-length c = search needs
-
 returns-2 : tie.Need-returns-2
 returns-2 c = rw (eq-eqb _ 1 (c .before .before .before .before .before .if1 .left)) (rw (c .before .before .before .before .is-move-available .ensures) at (c .before .before .leave-answer .ensures))
 
 pub is-move-available-spec : {M : Type 1} → statement M
 is-move-available-spec =
     tie.close
-    (tie.spec returns is-move-available-requires leave-answer-requires same-length returns-2)
+    (tie.spec returns (λ c κs. search needs) (λ c κs. search needs) (λ c. search needs) returns-2)

@@ -14,21 +14,6 @@ returns-2 c = rw (eq-eqb _ 40 (c .before .if1 .left), ne-eqb _ 40 (c .if2 .taken
 returns-3 : tie.Need-returns-3
 returns-3 c = rw (eq-eqb _ 40 (c .before .before .if1 .left), eq-eqb _ 40 (c .before .if2 .left), ne-eqb _ 40 (c .if3 .taken)) (record { number = refl; bytes = refl })
 
-cube-of-requires : tie.Need-cube-of-requires
-cube-of-requires c κs = search needs
-
-cube-of-requires-2 : tie.Need-cube-of-requires-2
-cube-of-requires-2 c κs = search needs
-
-mul-requires : tie.Need-mul-requires
-mul-requires c κs = search needs
-
-leave-cube-requires : tie.Need-leave-cube-requires
-leave-cube-requires c κs = search needs
-
-same-length : tie.Need-same-length
-same-length c = search needs
-
 returns-4 : tie.Need-returns-4
 returns-4 c = rw (eq-eqb _ 40 (c .before .before .before .before .before .before .before .before .before .if1 .left), eq-eqb _ 40 (c .before .before .before .before .before .before .before .before .if2 .left), eq-eqb _ 40 (c .before .before .before .before .before .before .before .if3 .left)) (rw (c .before .before .before .before .mul .ensures, c .before .before .before .before .before .before .cube-of .ensures, c .before .before .before .before .before .cube-of2 .ensures) at (c .before .before .leave-cube .ensures))
 
@@ -39,9 +24,9 @@ mul-spec =
     returns
     returns-2
     returns-3
-    cube-of-requires
-    cube-of-requires-2
-    mul-requires
-    leave-cube-requires
-    same-length
+    (λ c κs. search needs)
+    (λ c κs. search needs)
+    (λ c κs. search needs)
+    (λ c κs. search needs)
+    (λ c. search needs)
     returns-4)

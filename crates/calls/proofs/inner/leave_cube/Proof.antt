@@ -5,20 +5,8 @@ use borrow.Author.Needs.{needs}
 use Rattle.calls.proofs.inner.leave_cube.Statement.{statement}
 use Rattle.calls.proofs.inner.leave_cube.Tie as tie
 
-enum-known-verdict : tie.Need-enum-known-verdict
-enum-known-verdict c = search needs
-
-enum-told : tie.Need-enum-told
-enum-told c = search needs
-
-put-cube-requires : tie.Need-put-cube-requires
-put-cube-requires c κs = search needs
-
 returns : tie.Need-returns
 returns c = search needs
-
-same-length : tie.Need-same-length
-same-length c = search needs
 
 returns-2 : tie.Need-returns-2
 returns-2 c =
@@ -28,4 +16,10 @@ returns-2 c =
 pub leave-cube-spec : {M : Type 1} → statement M
 leave-cube-spec =
     tie.close
-    (tie.spec enum-known-verdict enum-told put-cube-requires returns same-length returns-2)
+    (tie.spec
+    (λ c. search needs)
+    (λ c. search needs)
+    (λ c κs. search needs)
+    returns
+    (λ c. search needs)
+    returns-2)

@@ -7,20 +7,8 @@ use borrow.Author.Needs.{needs}
 use Rattle.calls.proofs.inner.leave_number.Statement.{statement}
 use Rattle.calls.proofs.inner.leave_number.Tie as tie
 
-enum-known-a : tie.Need-enum-known-a
-enum-known-a c = search needs
-
-enum-known-a-2 : tie.Need-enum-known-a-2
-enum-known-a-2 c = search needs
-
-slice-write-out : tie.Need-slice-write-out
-slice-write-out c = search needs
-
 returns : tie.Need-returns
 returns c = search needs
-
-same-length : tie.Need-same-length
-same-length c = search needs
 
 returns-2 : tie.Need-returns-2
 returns-2 c =
@@ -29,4 +17,11 @@ returns-2 c =
 
 pub leave-number-spec : {M : Type 1} → statement M
 leave-number-spec =
-    tie.close (tie.spec enum-known-a enum-known-a-2 slice-write-out returns same-length returns-2)
+    tie.close
+    (tie.spec
+    (λ c. search needs)
+    (λ c. search needs)
+    (λ c. search needs)
+    returns
+    (λ c. search needs)
+    returns-2)
