@@ -5,18 +5,9 @@ use borrow.Author.Needs.{needs}
 use Rattle.moves.proofs.inner.get_inverse.Statement.{statement}
 use Rattle.moves.proofs.inner.get_inverse.Tie as tie
 
-mul-result : tie.Need-mul-result
-mul-result c = search needs
-
-sub-result : tie.Need-sub-result
-sub-result c = search needs
-
-add-result : tie.Need-add-result
-add-result c = search needs
-
 returns : tie.Need-returns
 unfolding inverseMove
 returns c = refl
 
 pub get-inverse-spec : {M : Type 1} → statement M
-get-inverse-spec = tie.close (tie.spec mul-result sub-result add-result returns)
+get-inverse-spec = tie.close (tie.spec (λ c. search needs) (λ c. search needs) (λ c. search needs) returns)

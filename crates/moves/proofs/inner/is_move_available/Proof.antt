@@ -11,18 +11,12 @@ returns : tie.Need-returns
 unfolding isAvailable
 returns c = simp (eq-eqb _ _ (c .if1 .taken))
 
-is-inverse-requires : tie.Need-is-inverse-requires
-is-inverse-requires c κs = search needs
-
 returns-2 : tie.Need-returns-2
 unfolding isAvailable
 returns-2 c =
     let a = c .before .before .before .args in
     let e : isInverse (a .current) (a .prev) ≡ true = sym (c .before .is-inverse .ensures) ∙ c .if2 .taken in
     simp (ne-eqb _ _ (c .before .before .if1 .left), e)
-
-is-same-layer-requires : tie.Need-is-same-layer-requires
-is-same-layer-requires c κs = search needs
 
 returns-3 : tie.Need-returns-3
 unfolding isAvailable
@@ -33,4 +27,4 @@ returns-3 c =
 
 pub is-move-available-spec : {M : Type 1} → statement M
 is-move-available-spec =
-    tie.close (tie.spec returns is-inverse-requires returns-2 is-same-layer-requires returns-3)
+    tie.close (tie.spec returns (λ c κs. search needs) returns-2 (λ c κs. search needs) returns-3)

@@ -1,5 +1,4 @@
 -- `moves::inner::tell` meets its contract. Assumes nothing.
-use mathlib.Core.Path.{refl}
 use borrow.Author.Tests.{eq-eqb, ne-eqb}
 use Rattle.moves.proofs.inner.tell.Statement.{statement}
 use Rattle.moves.proofs.inner.tell.Tie as tie
