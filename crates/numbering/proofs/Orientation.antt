@@ -5,13 +5,13 @@ use Prim.Native.Nat.{ℕ, zero, suc, _+_, _-_, _*_, _/_, _%_, _^_, _≤_, _<_}
 use native.Mathlib.Nat.{sub-self, sub-zero, pow-zero, pow-succ', div-one, mod-lt, mod-eq-of-lt, mul-comm, mul-assoc, add-mul, div-div-eq-div-mul, le-mul-of-pos-right, not-suc-le-zero}
 use native.Mathlib.Omega.{arith}
 use lib.Arith.{mod-mul, digits-div, digits-mod}
-use lib.ListN.{length, getD, take, drop, set, length-set, length-drop, drop-of-length-le}
+use lib.ListN.{length, getD, take, drop, set, length-set, length-take, length-drop, drop-of-length-le}
 use lib.Seq.{drop-cons, take-suc-set, take-all, drop-set-lt, getD-set-same}
 use Rattle.base.specs.Digits.{digits, digitsOf, orientationOf}
 use Rattle.base.specs.Lists.{Under, total}
 use Rattle.base.proofs.Digits.{pow-pos, digits-below, length-digitsOf, digitsOf-under}
 use Rattle.base.proofs.Steps.{next}
-use Rattle.base.proofs.Tests.{under-more}
+use Rattle.base.proofs.Tests.{under-more, under-take}
 
 -- ---- orientation_to_index: the places passed, in base k, and the number of what is left make the number of the whole
 
@@ -42,6 +42,13 @@ digits-end k s i index h l inv =
     let p = pow-zero k in
     let f : index * k ^ 0 ≡ index = ap (λ (n : ℕ). index * n) p ∙ omega arith in
     omega arith
+
+-- all places but the last are what `orientation_to_index` asks for
+pub all-but-last : (k n : ℕ) (xs : List ℕ) → length xs ≡ suc n → 0 < k → k ^ n ≤ 65536 → Under k xs
+    → (0 < k) × (k ^ length (take n xs) ≤ 65536) × Under k (take n xs)
+all-but-last k n xs l pos top u =
+    let e : length (take n xs) ≡ n = simp length-take (omega arith) in
+    (pos, rw e top, under-take k n xs u)
 
 -- ---- fill_orientation_slice: the last m digits of v, the highest of them first
 

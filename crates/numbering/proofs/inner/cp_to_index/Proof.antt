@@ -7,12 +7,6 @@ use borrow.Author.Needs.{needs}
 use Rattle.numbering.proofs.inner.cp_to_index.Statement.{statement}
 use Rattle.numbering.proofs.inner.cp_to_index.Tie as tie
 
-slice-aggregate-slice-to-index : tie.Need-slice-aggregate-slice-to-index
-slice-aggregate-slice-to-index c = search needs
-
-slice-to-index-requires : tie.Need-slice-to-index-requires
-slice-to-index-requires c κs = search needs
-
 cast-t6 : tie.Need-cast-t6
 cast-t6 c =
     let l : length (c .before .before .args .t1) ≡ 8 = search needs in
@@ -22,5 +16,4 @@ returns : tie.Need-returns
 returns c = search needs
 
 pub cp-to-index-spec : {M : Type 1} → statement M
-cp-to-index-spec =
-    tie.close (tie.spec slice-aggregate-slice-to-index slice-to-index-requires cast-t6 returns)
+cp-to-index-spec = tie.close (tie.spec (λ c. search needs) (λ c κs. search needs) cast-t6 returns)

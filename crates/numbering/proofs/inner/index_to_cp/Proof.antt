@@ -5,15 +5,6 @@ use borrow.Author.Needs.{needs}
 use Rattle.numbering.proofs.inner.index_to_cp.Statement.{statement}
 use Rattle.numbering.proofs.inner.index_to_cp.Tie as tie
 
-slice-aggregate-fill-perm-slice : tie.Need-slice-aggregate-fill-perm-slice
-slice-aggregate-fill-perm-slice c = search needs
-
-cast-fill-perm-slice : tie.Need-cast-fill-perm-slice
-cast-fill-perm-slice c = search needs
-
-fill-perm-slice-requires : tie.Need-fill-perm-slice-requires
-fill-perm-slice-requires c κs = search needs
-
 returns : tie.Need-returns
 returns c = c .before .fill-perm-slice .ensures ∙ add-zeros _
 
@@ -21,7 +12,7 @@ pub index-to-cp-spec : {M : Type 1} → statement M
 index-to-cp-spec =
     tie.close
     (tie.spec
-    slice-aggregate-fill-perm-slice
-    cast-fill-perm-slice
-    fill-perm-slice-requires
+    (λ c. search needs)
+    (λ c. search needs)
+    (λ c κs. search needs)
     returns)
