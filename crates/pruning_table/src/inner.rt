@@ -18,8 +18,6 @@ use move_table::E_COMBO_AT;
 use move_table::E_EP_AT;
 use move_table::EO_AT;
 use move_table::UD_EP_AT;
-use move_row::inner::columns_of;
-use move_row::inner::rows_of;
 use pair_table::Built;
 use pair_table::inner::all_below;
 use pair_table::inner::get_prune_table;

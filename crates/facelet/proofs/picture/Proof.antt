@@ -8,12 +8,6 @@ use borrow.Author.Needs.{needs}
 use Rattle.facelet.proofs.picture.Statement.{statement}
 use Rattle.facelet.proofs.picture.Tie as tie
 
-refusal-requires : tie.Need-refusal-requires
-refusal-requires c κs = search needs
-
-face-refused-requires : tie.Need-face-refused-requires
-face-refused-requires c κs = search needs
-
 returns : tie.Need-returns
 returns c =
     let n : refusalOf (c .before .before .before .args .c) ≡ 0 → ⊥ = λ z. c .before .if1 .taken (c .before .before .refusal .ensures ∙ z) in
@@ -21,9 +15,6 @@ returns c =
 
 is-solvable-requires : tie.Need-is-solvable-requires
 is-solvable-requires c κs = sym (c .before .refusal .ensures) ∙ c .if1 .left
-
-face-refused-requires-2 : tie.Need-face-refused-requires-2
-face-refused-requires-2 c κs = search needs
 
 returns-2 : tie.Need-returns-2
 returns-2 c =
@@ -44,11 +35,11 @@ pub picture-spec : {M : Type 1} → statement M
 picture-spec =
     tie.close
     (tie.spec
-    refusal-requires
-    face-refused-requires
+    (λ c κs. search needs)
+    (λ c κs. search needs)
     returns
     is-solvable-requires
-    face-refused-requires-2
+    (λ c κs. search needs)
     returns-2
     picture-of-requires
     returns-3)

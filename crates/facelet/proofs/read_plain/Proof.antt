@@ -14,18 +14,9 @@ use borrow.Author.Needs.{needs}
 use Rattle.facelet.proofs.read_plain.Statement.{statement}
 use Rattle.facelet.proofs.read_plain.Tie as tie
 
-cube-refused-requires : tie.Need-cube-refused-requires
-cube-refused-requires c κs = search needs
-
 returns : tie.Need-returns
 unfolding plainRefusal
 returns c = c .cube-refused .ensures ∙ cubed-refused 1 (plainRefusal (now (c .before .before .before .args .s))) (rw (ne-eqb _ 54 (c .before .if1 .taken))) (λ z. omega arith) (cubeRead (now (c .before .before .before .args .s)))
-
-all-colors-requires : tie.Need-all-colors-requires
-all-colors-requires c κs = search needs
-
-cube-refused-requires-2 : tie.Need-cube-refused-requires-2
-cube-refused-requires-2 c κs = search needs
 
 returns-2 : tie.Need-returns-2
 unfolding plainRefusal
@@ -34,14 +25,8 @@ returns-2 c =
     let e : allColors s ≡ false = sym (c .before .before .all-colors .ensures) ∙ not-true _ (c .before .if2 .taken) in
     c .cube-refused2 .ensures ∙ cubed-refused 2 (plainRefusal s) (rw (eq-eqb _ 54 (c .before .before .before .if1 .left), e)) (λ z. omega arith) (cubeRead s)
 
-cube-read-requires : tie.Need-cube-read-requires
-cube-read-requires c κs = search needs
-
 is-solvable-requires : tie.Need-is-solvable-requires
 is-solvable-requires c κs = ap refusalOf (c .cube-read .ensures) ∙ no-refusal (read-range (now (c .before .before .before .before .before .args .s)))
-
-cube-refused-requires-3 : tie.Need-cube-refused-requires-3
-cube-refused-requires-3 c κs = search needs
 
 returns-3 : tie.Need-returns-3
 unfolding plainRefusal
@@ -63,13 +48,13 @@ pub read-plain-spec : {M : Type 1} → statement M
 read-plain-spec =
     tie.close
     (tie.spec
-    cube-refused-requires
+    (λ c κs. search needs)
     returns
-    all-colors-requires
-    cube-refused-requires-2
+    (λ c κs. search needs)
+    (λ c κs. search needs)
     returns-2
-    cube-read-requires
+    (λ c κs. search needs)
     is-solvable-requires
-    cube-refused-requires-3
+    (λ c κs. search needs)
     returns-3
     returns-4)

@@ -20,15 +20,6 @@ use borrow.Author.Needs.{needs}
 use Rattle.facelet.proofs.read_strict.Statement.{statement}
 use Rattle.facelet.proofs.read_strict.Tie as tie
 
-read-plain-requires : tie.Need-read-plain-requires
-read-plain-requires c κs = search needs
-
-enum-told : tie.Need-enum-told
-enum-told c = search needs
-
-enum-told-2 : tie.Need-enum-told-2
-enum-told-2 c = search needs
-
 picture-of-requires : tie.Need-picture-of-requires
 picture-of-requires c κs =
     let s = now (c .before .before .before .before .before .args .s) in
@@ -37,12 +28,6 @@ picture-of-requires c κs =
     let z : plainRefusal s ≡ 0 = was-good (plainRefusal s) (cubeRead s) (ap (λ (a : CubeAnswer). a .verdict) (sym (c .before .before .before .read-plain .ensures)) ∙ good) in
     let cube : plain .cube ≡ cubeRead s = ap (λ (a : CubeAnswer). a .cube) (c .before .before .before .read-plain .ensures) ∙ good-cube (plainRefusal s) (cubeRead s) z in
     ap refusalOf cube ∙ no-refusal (read-range s)
-
-slice-aggregate-same-bytes : tie.Need-slice-aggregate-same-bytes
-slice-aggregate-same-bytes c = search needs
-
-same-bytes-requires : tie.Need-same-bytes-requires
-same-bytes-requires c κs = search needs
 
 returns : tie.Need-returns
 returns c =
@@ -53,9 +38,6 @@ returns c =
     let cube : plain .cube ≡ cubeRead s = ap (λ (a : CubeAnswer). a .cube) (c .before .before .before .before .before .before .before .read-plain .ensures) ∙ good-cube (plainRefusal s) (cubeRead s) z in
     let e : sameList (picture (cubeRead s)) s ≡ true = ap (λ (l : List ℕ). sameList l s) (sym (c .before .before .before .picture-of .ensures ∙ ap picture cube)) ∙ sym (c .before .same-bytes .ensures) ∙ c .if1 .taken in
     c .before .before .before .before .before .before .before .read-plain .ensures ∙ ap (λ (n : ℕ). cubed n (cubeRead s)) (z ∙ sym (strict-same s z e))
-
-cube-refused-requires : tie.Need-cube-refused-requires
-cube-refused-requires c κs = search needs
 
 returns-2 : tie.Need-returns-2
 returns-2 c =
@@ -79,13 +61,13 @@ pub read-strict-spec : {M : Type 1} → statement M
 read-strict-spec =
     tie.close
     (tie.spec
-    read-plain-requires
-    enum-told
-    enum-told-2
+    (λ c κs. search needs)
+    (λ c. search needs)
+    (λ c. search needs)
     picture-of-requires
-    slice-aggregate-same-bytes
-    same-bytes-requires
+    (λ c. search needs)
+    (λ c κs. search needs)
     returns
-    cube-refused-requires
+    (λ c κs. search needs)
     returns-2
     returns-3)

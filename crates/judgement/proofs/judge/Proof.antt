@@ -8,9 +8,6 @@ use borrow.Author.Needs.{needs}
 use Rattle.judgement.proofs.judge.Statement.{statement}
 use Rattle.judgement.proofs.judge.Tie as tie
 
-score-requires : tie.Need-score-requires
-score-requires c κs = search needs
-
 print-requires : tie.Need-print-requires
 print-requires c κs = subst Short (sym (c .score .ensures)) (short-score (now (c .before .before .args .input)))
 
@@ -18,4 +15,4 @@ returns : tie.Need-returns
 returns c = c .print .ensures ∙ ap (λ (k : Score). printedAs (scoreText k)) (c .before .score .ensures)
 
 pub judge-spec : {M : Type 1} → statement M
-judge-spec = tie.close (tie.spec score-requires print-requires returns)
+judge-spec = tie.close (tie.spec (λ c κs. search needs) print-requires returns)

@@ -19,27 +19,6 @@ use Rattle.move_table.proofs.inner.fill_part.Reads as fill-part-reads
 returns : tie.Need-returns
 returns c = not-sized 891780 (now (c .before .before .args .block)) moveBlock (c .if1 .taken)
 
-fill-part-requires : tie.Need-fill-part-requires
-fill-part-requires c κs = search needs
-
-fill-part-requires-2 : tie.Need-fill-part-requires-2
-fill-part-requires-2 c κs = search needs
-
-fill-part-requires-3 : tie.Need-fill-part-requires-3
-fill-part-requires-3 c κs = search needs
-
-fill-part-requires-4 : tie.Need-fill-part-requires-4
-fill-part-requires-4 c κs = search needs
-
-fill-part-requires-5 : tie.Need-fill-part-requires-5
-fill-part-requires-5 c κs = search needs
-
-fill-part-requires-6 : tie.Need-fill-part-requires-6
-fill-part-requires-6 c κs = search needs
-
-same-length : tie.Need-same-length
-same-length c = search needs
-
 -- what a call of `fill_part` leaves of the block, its number, place and length being by equations
 told : {Γ : _} {ar : _} {u : _} (x : Called lts.ps·0 lts.r·0 fill-part-reads.Learnt Γ ar u) (d v : List ℕ) (k at n : ℕ)
     → (let a = argsV (x .lifetimes) lts.ps·0 (Γ .locals) ar u in
@@ -91,11 +70,11 @@ get-move-tables-spec =
     tie.close
     (tie.spec
     returns
-    fill-part-requires
-    fill-part-requires-2
-    fill-part-requires-3
-    fill-part-requires-4
-    fill-part-requires-5
-    fill-part-requires-6
-    same-length
+    (λ c κs. search needs)
+    (λ c κs. search needs)
+    (λ c κs. search needs)
+    (λ c κs. search needs)
+    (λ c κs. search needs)
+    (λ c κs. search needs)
+    (λ c. search needs)
     returns-2)

@@ -24,9 +24,6 @@ returns c = search needs
 returns-2 : tie.Need-returns-2
 returns-2 c = search needs
 
-tables-below-requires : tie.Need-tables-below-requires
-tables-below-requires c κs = search needs
-
 returns-3 : tie.Need-returns-3
 returns-3 c =
     let w = c .before in
@@ -35,17 +32,11 @@ returns-3 c =
 fill-all-requires : tie.Need-fill-all-requires
 fill-all-requires c κs = (blocks (c .before .before .before), below (c .before))
 
-same-length : tie.Need-same-length
-same-length c = search needs
-
 returns-4 : tie.Need-returns-4
 returns-4 c =
     let w = c .before .before .before in
     let e = w .before .before in
     (blocks (e .before .before), below e, w .fill-all .ensures .0, w .fill-all .ensures .1 .0, yes-of (w .fill-all .result) (w .fill-all .ensures .1 .1) (c .if4 .taken))
-
-same-length-2 : tie.Need-same-length-2
-same-length-2 c = search needs
 
 returns-5 : tie.Need-returns-5
 returns-5 c =
@@ -59,10 +50,10 @@ get-prune-tables-spec =
     (tie.spec
     returns
     returns-2
-    tables-below-requires
+    (λ c κs. search needs)
     returns-3
     fill-all-requires
-    same-length
+    (λ c. search needs)
     returns-4
-    same-length-2
+    (λ c. search needs)
     returns-5)

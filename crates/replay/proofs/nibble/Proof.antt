@@ -5,9 +5,6 @@ use borrow.Author.Needs.{needs}
 use Rattle.replay.proofs.nibble.Statement.{statement}
 use Rattle.replay.proofs.nibble.Tie as tie
 
-sub-result : tie.Need-sub-result
-sub-result c = search needs
-
 returns : tie.Need-returns
 unfolding nibbleOf
 returns c = simp (le-leb 97 _ (c .before .if1 .taken), le-leb _ 102 (c .if2 .taken))
@@ -29,4 +26,4 @@ unfolding nibbleOf
 returns-5 c = simp (lt-leb 97 _ (c .before .if1 .left), lt-leb 48 _ (c .if3 .left))
 
 pub nibble-spec : {M : Type 1} → statement M
-nibble-spec = tie.close (tie.spec sub-result returns returns-2 returns-3 returns-4 returns-5)
+nibble-spec = tie.close (tie.spec (λ c. search needs) returns returns-2 returns-3 returns-4 returns-5)

@@ -15,32 +15,17 @@ returns c = (simp (lt-leb (c .before .args .at + 2) (length (now (c .before .arg
 returns-2 : tie.Need-returns-2
 returns-2 c = (simp (lt-leb (c .before .before .args .at + 2) (length (now (c .before .before .args .line))) (omega arith)), record { start = omega arith; end = omega arith })
 
-add-start : tie.Need-add-start
-add-start c = search needs
-
-shared-slice-read-len : tie.Need-shared-slice-read-len
-shared-slice-read-len c = search needs
-
 cast-len : tie.Need-cast-len
 cast-len c = omega (arith, c .shared-slice-known .given (c .before .before .before .args .at))
 
 mul-len : tie.Need-mul-len
 mul-len c = omega (arith, c .shared-slice-known .given (c .before .before .before .args .at))
 
-add-len : tie.Need-add-len
-add-len c = search needs
-
-shared-slice-read-len-2 : tie.Need-shared-slice-read-len-2
-shared-slice-read-len-2 c = search needs
-
 cast-len-2 : tie.Need-cast-len-2
 cast-len-2 c = omega (arith, c .shared-slice-known2 .given (c .before .before .before .before .args .at + 1))
 
 add-len-2 : tie.Need-add-len-2
 add-len-2 c = omega (arith, c .before .shared-slice-known .given (c .before .before .before .before .args .at), c .shared-slice-known2 .given (c .before .before .before .before .args .at + 1))
-
-sub-if3 : tie.Need-sub-if3
-sub-if3 c = search needs
 
 returns-3 : tie.Need-returns-3
 returns-3 c =
@@ -49,9 +34,6 @@ returns-3 c =
     let h : length s - (at + 2) < getD s at 0 * 256 + getD s (at + 1) 0 = c .if3 .taken in
     let k : length s ≤ at + 2 + (getD s at 0 * 256 + getD s (at + 1) 0) = omega arith in
     (simp (le-leb (at + 2) (length s) (omega arith), min-eq-right k), record { start = omega arith; end = omega arith })
-
-add-t14 : tie.Need-add-t14
-add-t14 c = search needs
 
 returns-4 : tie.Need-returns-4
 returns-4 c =
@@ -67,15 +49,15 @@ part-at-spec =
     (tie.spec
     returns
     returns-2
-    add-start
-    shared-slice-read-len
+    (λ c. search needs)
+    (λ c. search needs)
     cast-len
     mul-len
-    add-len
-    shared-slice-read-len-2
+    (λ c. search needs)
+    (λ c. search needs)
     cast-len-2
     add-len-2
-    sub-if3
+    (λ c. search needs)
     returns-3
-    add-t14
+    (λ c. search needs)
     returns-4)

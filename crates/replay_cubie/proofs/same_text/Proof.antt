@@ -15,20 +15,11 @@ returns c = search needs
 returns-2 : tie.Need-returns-2
 returns-2 c = search needs
 
-shared-slice-read-wanted : tie.Need-shared-slice-read-wanted
-shared-slice-read-wanted c = search needs
-
 cast-wanted : tie.Need-cast-wanted
 cast-wanted c = omega (arith, c .shared-slice-known3 .given (length (now (c .before .before .before .before .before .before .args .want)) - 2))
 
 mul-wanted : tie.Need-mul-wanted
 mul-wanted c = omega (arith, c .shared-slice-known3 .given (length (now (c .before .before .before .before .before .before .args .want)) - 2))
-
-add-wanted : tie.Need-add-wanted
-add-wanted c = search needs
-
-shared-slice-read-wanted-2 : tie.Need-shared-slice-read-wanted-2
-shared-slice-read-wanted-2 c = search needs
 
 cast-wanted-2 : tie.Need-cast-wanted-2
 cast-wanted-2 c = omega (arith, c .shared-slice-known4 .given ((length (now (c .before .before .before .before .before .before .before .args .want)) - 2) + 1))
@@ -39,17 +30,8 @@ add-wanted-2 c = omega (arith, c .before .shared-slice-known3 .given (length (no
 slice-aggregate-same-count : tie.Need-slice-aggregate-same-count
 slice-aggregate-same-count c = sym (length-take-le (length (now (c .before .before .before .before .before .before .before .before .args .want)) - 2) (now (c .before .before .before .before .before .before .before .before .args .want)) (omega arith))
 
-slice-relend-prefix-same-count : tie.Need-slice-relend-prefix-same-count
-slice-relend-prefix-same-count c = search needs
-
 slice-aggregate-same-count-2 : tie.Need-slice-aggregate-same-count-2
 slice-aggregate-same-count-2 c = sym (length-take-le (length (now (c .before .before .before .before .before .before .before .before .before .args .want)) - 2) (now (c .before .before .before .before .before .before .before .before .before .args .out)) (omega (arith, c .before .before .before .before .before .if1 .left, c .before .before .before .before .if2 .left)))
-
-same-count-requires : tie.Need-same-count-requires
-same-count-requires c κs = search needs
-
-same-length : tie.Need-same-length
-same-length c = search needs
 
 returns-3 : tie.Need-returns-3
 returns-3 c = search needs
@@ -60,16 +42,16 @@ same-text-spec =
     (tie.spec
     returns
     returns-2
-    shared-slice-read-wanted
+    (λ c. search needs)
     cast-wanted
     mul-wanted
-    add-wanted
-    shared-slice-read-wanted-2
+    (λ c. search needs)
+    (λ c. search needs)
     cast-wanted-2
     add-wanted-2
     slice-aggregate-same-count
-    slice-relend-prefix-same-count
+    (λ c. search needs)
     slice-aggregate-same-count-2
-    same-count-requires
-    same-length
+    (λ c κs. search needs)
+    (λ c. search needs)
     returns-3)

@@ -10,9 +10,6 @@ use borrow.Author.Needs.{needs}
 use Rattle.scramble.proofs.move_from_str.Statement.{statement}
 use Rattle.scramble.proofs.move_from_str.Tie as tie
 
-number-of-requires : tie.Need-number-of-requires
-number-of-requires c κs = search needs
-
 returns : tie.Need-returns
 returns c =
     let w = now (c .before .before .before .args .word) in
@@ -26,4 +23,4 @@ returns-2 c =
     ap Is (c .before .number-of .ensures) ∙ simp (lt-ltb (numberOf w) 18 h)
 
 pub move-from-str-spec : {M : Type 1} → statement M
-move-from-str-spec = tie.close (tie.spec number-of-requires returns returns-2)
+move-from-str-spec = tie.close (tie.spec (λ c κs. search needs) returns returns-2)

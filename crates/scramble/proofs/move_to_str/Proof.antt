@@ -9,15 +9,6 @@ use borrow.Author.Needs.{needs}
 use Rattle.scramble.proofs.move_to_str.Statement.{statement}
 use Rattle.scramble.proofs.move_to_str.Tie as tie
 
-slice-aggregate-scramble-to-str : tie.Need-slice-aggregate-scramble-to-str
-slice-aggregate-scramble-to-str c = search needs
-
-scramble-to-str-requires : tie.Need-scramble-to-str-requires
-scramble-to-str-requires c κs = search needs
-
-same-length : tie.Need-same-length
-same-length c = search needs
-
 returns : tie.Need-returns
 returns c =
     let m = c .before .before .before .before .before .before .args .m in
@@ -28,4 +19,4 @@ returns c =
 pub move-to-str-spec : {M : Type 1} → statement M
 move-to-str-spec =
     tie.close
-    (tie.spec slice-aggregate-scramble-to-str scramble-to-str-requires same-length returns)
+    (tie.spec (λ c. search needs) (λ c κs. search needs) (λ c. search needs) returns)

@@ -12,15 +12,6 @@ use borrow.Author.Needs.{needs}
 use Rattle.scramble.proofs.scramble_from_str.Statement.{statement}
 use Rattle.scramble.proofs.scramble_from_str.Tie as tie
 
-count-moves-requires : tie.Need-count-moves-requires
-count-moves-requires c κs = search needs
-
-enum-known-n : tie.Need-enum-known-n
-enum-known-n c = search needs
-
-enum-told : tie.Need-enum-told
-enum-told c = search needs
-
 returns : tie.Need-returns
 unfolding parsedAs roomAfter
 returns c =
@@ -45,9 +36,6 @@ put-moves-requires c κs =
     let is = counted-moves ms (c .before .before .before .n .given .0 .0) (sym (c .before .before .before .before .before .count-moves .ensures) ∙ c .before .before .before .n .given .1) in
     (sym (is .1), c .before .if1 .left)
 
-same-length : tie.Need-same-length
-same-length c = search needs
-
 returns-3 : tie.Need-returns-3
 unfolding parsedAs roomAfter
 returns-3 c =
@@ -62,11 +50,11 @@ pub scramble-from-str-spec : {M : Type 1} → statement M
 scramble-from-str-spec =
     tie.close
     (tie.spec
-    count-moves-requires
-    enum-known-n
-    enum-told
+    (λ c κs. search needs)
+    (λ c. search needs)
+    (λ c. search needs)
     returns
     returns-2
     put-moves-requires
-    same-length
+    (λ c. search needs)
     returns-3)

@@ -15,18 +15,12 @@ use borrow.Author.Needs.{needs}
 use Rattle.scramble.proofs.scramble_to_str.Statement.{statement}
 use Rattle.scramble.proofs.scramble_to_str.Tie as tie
 
-in-range-requires : tie.Need-in-range-requires
-in-range-requires c κs = search needs
-
 returns : tie.Need-returns
 unfolding writtenAs roomAfter
 returns c =
     let ms = now (c .before .before .before .before .args .moves) in
     let n = no-moves ms (textOf ms) (now (c .before .before .before .before .args .text)) (sym (c .before .in-range .ensures) ∙ not-true _ (c .if1 .taken)) in
     (rw n, rw n)
-
-text-fits-requires : tie.Need-text-fits-requires
-text-fits-requires c κs = search needs
 
 returns-2 : tie.Need-returns-2
 unfolding writtenAs roomAfter
@@ -46,9 +40,6 @@ put-text-requires c κs =
     let h : length (textOf ms) ≤ length room = leb-true _ _ (sym (c .before .before .text-fits .ensures) ∙ not-false _ (c .before .if2 .left)) in
     (inRange-under 18 ms good, h)
 
-same-length : tie.Need-same-length
-same-length c = search needs
-
 returns-3 : tie.Need-returns-3
 unfolding writtenAs roomAfter
 returns-3 c =
@@ -63,10 +54,10 @@ pub scramble-to-str-spec : {M : Type 1} → statement M
 scramble-to-str-spec =
     tie.close
     (tie.spec
-    in-range-requires
+    (λ c κs. search needs)
     returns
-    text-fits-requires
+    (λ c κs. search needs)
     returns-2
     put-text-requires
-    same-length
+    (λ c. search needs)
     returns-3)

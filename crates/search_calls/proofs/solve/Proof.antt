@@ -32,18 +32,6 @@ returns-4 c =
     let a = c .before .before .before .before .before .before .before .before .before .args in
     refuses (now (a .cube)) (a .limit) (a .budget) (now (a .moves)) (now (a .prunes)) (now (a .one)) (now (a .two)) (c .before .before .before .if1 .left) (unfit-two (now (a .cube)) (now (a .one)) (now (a .two)) (c .before .before .if2 .left) (c .before .if3 .left) (c .if4 .taken))
 
-cube-of-requires : tie.Need-cube-of-requires
-cube-of-requires c κs = search needs
-
-solve-requires : tie.Need-solve-requires
-solve-requires c κs = search needs
-
-enum-told : tie.Need-enum-told
-enum-told c = search needs
-
-slice-aggregate-copy-in : tie.Need-slice-aggregate-copy-in
-slice-aggregate-copy-in c = search needs
-
 copy-in-requires : tie.Need-copy-in-requires
 copy-in-requires c κs =
     let ok = c .before .before .before .before .before .before .solve .ok in
@@ -64,15 +52,6 @@ copy-in-requires-2 c κs =
     let h : 0 + length (c .before .before .before .before .before .before .before .before .before .before .before .solve .result .phase2) ≤ length (now (c .before .before .before .before .before .before .before .before .before .before .before .before .before .before .before .before .before .before .before .before .before .before .args .two)) = omega (arith, c .before .before .before .before .before .before .before .before .before .before .before .before .before .if4 .left) in
     h
 
-pack-requires : tie.Need-pack-requires
-pack-requires c κs = search needs
-
-same-length : tie.Need-same-length
-same-length c = search needs
-
-same-length-2 : tie.Need-same-length-2
-same-length-2 c = search needs
-
 returns-5 : tie.Need-returns-5
 returns-5 c =
     let s = c .before .before .before .before .before .before .before .before .before .before .before .before .before .before .before .solve .result in
@@ -84,9 +63,6 @@ returns-5 c =
     answers (now (a .cube)) (a .limit) (a .budget) (now (a .moves)) (now (a .prunes)) (now (a .one)) (now (a .two)) (c .before .before .before .before .before .before .before .before .before .before .before .before .before .before .before .before .before .before .before .before .if1 .left) (all-fit (now (a .cube)) (now (a .one)) (now (a .two)) (c .before .before .before .before .before .before .before .before .before .before .before .before .before .before .before .before .before .before .before .if2 .left) (c .before .before .before .before .before .before .before .before .before .before .before .before .before .before .before .before .before .before .if3 .left) (c .before .before .before .before .before .before .before .before .before .before .before .before .before .before .before .before .before .if4 .left)) (c .before .before .before .before .before .before .before .before .before .before .before .before .before .before .before .before .cube-of .ensures) (c .before .before .before .before .before .before .before .before .before .before .before .before .before .before .before .solve .ensures .0) (c .pack .ensures)
     (c .before .before .before .before .before .before .before .before .copy-in .ensures ∙ paste-whole (now (a .one)) (s .phase1) (l ∙ sym (c .before .before .before .before .before .before .before .before .before .before .before .before .before .before .before .before .before .before .if3 .left)) ∙ ap (λ (f : Found). listLeft f (s .phase1) (now (a .one))) is)
     (c .before .before .before .copy-in2 .ensures ∙ paste-whole (now (a .two)) (s .phase2) (m ∙ sym (c .before .before .before .before .before .before .before .before .before .before .before .before .before .before .before .before .before .if4 .left)) ∙ ap (λ (f : Found). listLeft f (s .phase2) (now (a .two))) is)
-
-pack-requires-2 : tie.Need-pack-requires-2
-pack-requires-2 c κs = search needs
 
 returns-6 : tie.Need-returns-6
 returns-6 c =
@@ -103,16 +79,16 @@ solve-spec =
     returns-2
     returns-3
     returns-4
-    cube-of-requires
-    solve-requires
-    enum-told
-    slice-aggregate-copy-in
+    (λ c κs. search needs)
+    (λ c κs. search needs)
+    (λ c. search needs)
+    (λ c. search needs)
     copy-in-requires
     slice-aggregate-copy-in-2
     copy-in-requires-2
-    pack-requires
-    same-length
-    same-length-2
+    (λ c κs. search needs)
+    (λ c. search needs)
+    (λ c. search needs)
     returns-5
-    pack-requires-2
+    (λ c κs. search needs)
     returns-6)

@@ -22,17 +22,8 @@ use borrow.Author.Needs.{needs}
 use Rattle.solution.proofs.net.Statement.{statement}
 use Rattle.solution.proofs.net.Tie as tie
 
-print-refused-requires : tie.Need-print-refused-requires
-print-refused-requires c κs = search needs
-
 returns : tie.Need-returns
 returns c = (c .print-refused .ensures .0 ∙ ap printedAs (sym (net-long (now (c .before .before .before .args .input)) (c .before .if1 .taken))), c .print-refused .ensures .1)
-
-find-requires : tie.Need-find-requires
-find-requires c κs = search needs
-
-print-refused-requires-2 : tie.Need-print-refused-requires-2
-print-refused-requires-2 c κs = search needs
 
 returns-2 : tie.Need-returns-2
 returns-2 c =
@@ -46,12 +37,6 @@ returns-2 c =
 slice-aggregate-all-colors : tie.Need-slice-aggregate-all-colors
 slice-aggregate-all-colors c = sym (length-take-le (c .before .before .find .result) (now (c .before .before .before .before .before .args .input)) (c .before .before .find .ensures .1))
 
-all-colors-requires : tie.Need-all-colors-requires
-all-colors-requires c κs = search needs
-
-print-refused-requires-3 : tie.Need-print-refused-requires-3
-print-refused-requires-3 c κs = search needs
-
 returns-3 : tie.Need-returns-3
 returns-3 c =
     let s = now (c .before .before .before .before .before .before .before .before .args .input) in
@@ -64,9 +49,6 @@ returns-3 c =
 
 slice-aggregate-draw : tie.Need-slice-aggregate-draw
 slice-aggregate-draw c = sym (length-take-le (c .before .before .before .before .before .find .result) (now (c .before .before .before .before .before .before .before .before .args .input)) (c .before .before .before .before .before .find .ensures .1))
-
-slice-aggregate-draw-2 : tie.Need-slice-aggregate-draw-2
-slice-aggregate-draw-2 c = search needs
 
 draw-requires : tie.Need-draw-requires
 draw-requires c κs =
@@ -92,16 +74,16 @@ pub net-spec : {M : Type 1} → statement M
 net-spec =
     tie.close
     (tie.spec
-    print-refused-requires
+    (λ c κs. search needs)
     returns
-    find-requires
-    print-refused-requires-2
+    (λ c κs. search needs)
+    (λ c κs. search needs)
     returns-2
     slice-aggregate-all-colors
-    all-colors-requires
-    print-refused-requires-3
+    (λ c κs. search needs)
+    (λ c κs. search needs)
     returns-3
     slice-aggregate-draw
-    slice-aggregate-draw-2
+    (λ c. search needs)
     draw-requires
     returns-4)

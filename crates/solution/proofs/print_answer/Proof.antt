@@ -11,9 +11,6 @@ use borrow.Author.Needs.{needs}
 use Rattle.solution.proofs.print_answer.Statement.{statement}
 use Rattle.solution.proofs.print_answer.Tie as tie
 
-enum-told : tie.Need-enum-told
-enum-told c = search needs
-
 array-share-prefix-one : tie.Need-array-share-prefix-one
 array-share-prefix-one c =
     let s = c .before .before .before .before .args .s in
@@ -49,30 +46,6 @@ print-solved-requires c κs =
     let h₂ : s .n2 ≤ length (s .phase2) = omega (arith, c .before .before .before .before .before .before .pre .n2) in
     (c .before .before .before .before .before .before .pre .one, c .before .before .before .before .before .before .pre .two, omega (arith, c .before .before .before .before .before .before .pre .n1, length-take-le (s .n1) (s .phase1) h₁), omega (arith, c .before .before .before .before .before .before .pre .n2, length-take-le (s .n2) (s .phase2) h₂))
 
-enum-told-2 : tie.Need-enum-told-2
-enum-told-2 c = search needs
-
-slice-aggregate-print-bytes : tie.Need-slice-aggregate-print-bytes
-slice-aggregate-print-bytes c = search needs
-
-print-bytes-requires : tie.Need-print-bytes-requires
-print-bytes-requires c κs = search needs
-
-enum-told-3 : tie.Need-enum-told-3
-enum-told-3 c = search needs
-
-slice-aggregate-print-bytes-2 : tie.Need-slice-aggregate-print-bytes-2
-slice-aggregate-print-bytes-2 c = search needs
-
-print-bytes-requires-2 : tie.Need-print-bytes-requires-2
-print-bytes-requires-2 c κs = search needs
-
-enum-known-found : tie.Need-enum-known-found
-enum-known-found c = search needs
-
-print-refused-requires : tie.Need-print-refused-requires
-print-refused-requires c κs = search needs
-
 returns : tie.Need-returns
 returns c = (c .print-solved .ensures .0 ∙ ap printedAs (sym (answer-solved (c .before .before .before .before .before .before .before .args .s) (c .before .before .before .before .before .enum-told .given .1))), c .print-solved .ensures .1)
 
@@ -89,20 +62,20 @@ pub print-answer-spec : {M : Type 1} → statement M
 print-answer-spec =
     tie.close
     (tie.spec
-    enum-told
+    (λ c. search needs)
     array-share-prefix-one
     slice-aggregate-print-solved
     array-share-prefix-two
     slice-aggregate-print-solved-2
     print-solved-requires
-    enum-told-2
-    slice-aggregate-print-bytes
-    print-bytes-requires
-    enum-told-3
-    slice-aggregate-print-bytes-2
-    print-bytes-requires-2
-    enum-known-found
-    print-refused-requires
+    (λ c. search needs)
+    (λ c. search needs)
+    (λ c κs. search needs)
+    (λ c. search needs)
+    (λ c. search needs)
+    (λ c κs. search needs)
+    (λ c. search needs)
+    (λ c κs. search needs)
     returns
     returns-2
     returns-3

@@ -8,12 +8,6 @@ use borrow.Author.Needs.{needs}
 use Rattle.solution.proofs.print_bytes.Statement.{statement}
 use Rattle.solution.proofs.print_bytes.Tie as tie
 
-slice-aggregate-put-bytes : tie.Need-slice-aggregate-put-bytes
-slice-aggregate-put-bytes c = search needs
-
-put-bytes-requires : tie.Need-put-bytes-requires
-put-bytes-requires c κs = search needs
-
 returns : tie.Need-returns
 returns c =
     let b = now (c .before .before .before .before .args .bytes) in
@@ -22,4 +16,4 @@ returns c =
     (is-printed _ b _ (e .1) n, omega (arith, n, c .before .before .before .before .pre))
 
 pub print-bytes-spec : {M : Type 1} → statement M
-print-bytes-spec = tie.close (tie.spec slice-aggregate-put-bytes put-bytes-requires returns)
+print-bytes-spec = tie.close (tie.spec (λ c. search needs) (λ c κs. search needs) returns)

@@ -8,12 +8,6 @@ use borrow.Author.Needs.{needs}
 use Rattle.solution.proofs.print_refused.Statement.{statement}
 use Rattle.solution.proofs.print_refused.Tie as tie
 
-slice-aggregate-put-line : tie.Need-slice-aggregate-put-line
-slice-aggregate-put-line c = search needs
-
-slice-aggregate-put-line-2 : tie.Need-slice-aggregate-put-line-2
-slice-aggregate-put-line-2 c = search needs
-
 put-line-requires : tie.Need-put-line-requires
 put-line-requires c κs = omega (arith, refused-le (c .before .before .args .n) (omega (arith, c .before .before .fits .n .fits)))
 
@@ -27,4 +21,4 @@ returns c =
 pub print-refused-spec : {M : Type 1} → statement M
 print-refused-spec =
     tie.close
-    (tie.spec slice-aggregate-put-line slice-aggregate-put-line-2 put-line-requires returns)
+    (tie.spec (λ c. search needs) (λ c. search needs) put-line-requires returns)

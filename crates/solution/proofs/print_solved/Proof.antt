@@ -12,9 +12,6 @@ use borrow.Author.Needs.{needs}
 use Rattle.solution.proofs.print_solved.Statement.{statement}
 use Rattle.solution.proofs.print_solved.Tie as tie
 
-slice-aggregate-put-turns : tie.Need-slice-aggregate-put-turns
-slice-aggregate-put-turns c = search needs
-
 put-turns-requires : tie.Need-put-turns-requires
 put-turns-requires c κs =
     let a = c .before .before .before .args in
@@ -22,9 +19,6 @@ put-turns-requires c κs =
     let two = now (a .two) in
     let size = solved-le one two (a .count) (c .before .before .before .pre .2) (c .before .before .before .pre .3) (c .before .before .before .fits .count .fits) in
     (c .before .before .before .pre .0, c .before .before .before .pre .1, omega (arith, size))
-
-slice-aggregate-put-counts : tie.Need-slice-aggregate-put-counts
-slice-aggregate-put-counts c = search needs
 
 put-counts-requires : tie.Need-put-counts-requires
 put-counts-requires c κs =
@@ -55,8 +49,8 @@ pub print-solved-spec : {M : Type 1} → statement M
 print-solved-spec =
     tie.close
     (tie.spec
-    slice-aggregate-put-turns
+    (λ c. search needs)
     put-turns-requires
-    slice-aggregate-put-counts
+    (λ c. search needs)
     put-counts-requires
     returns)

@@ -16,24 +16,12 @@ use borrow.Author.Needs.{needs}
 use Rattle.solution.proofs.put_counts.Statement.{statement}
 use Rattle.solution.proofs.put_counts.Tie as tie
 
-add-both : tie.Need-add-both
-add-both c = search needs
-
-strokes-requires : tie.Need-strokes-requires
-strokes-requires c κs = search needs
-
-strokes-requires-2 : tie.Need-strokes-requires-2
-strokes-requires-2 c κs = search needs
-
 add-strokes : tie.Need-add-strokes
 add-strokes c =
     let one = now (c .before .before .before .before .before .args .one) in
     let two = now (c .before .before .before .before .before .args .two) in
     let small : c .before .strokes .result + c .strokes2 .result ≤ 124 = omega (arith, c .before .before .before .before .before .pre .0, c .before .before .before .before .before .pre .1, strokes-le one, strokes-le two, c .before .strokes .ensures, c .strokes2 .ensures) in
     search needs
-
-slice-aggregate-put-line : tie.Need-slice-aggregate-put-line
-slice-aggregate-put-line c = search needs
 
 put-line-requires : tie.Need-put-line-requires
 put-line-requires c κs =
@@ -43,9 +31,6 @@ put-line-requires c κs =
     let size = counts-length one two (a .count) in
     omega (arith, c .before .before .before .before .before .before .before .pre .2, size)
 
-slice-aggregate-put-line-2 : tie.Need-slice-aggregate-put-line-2
-slice-aggregate-put-line-2 c = search needs
-
 put-line-requires-2 : tie.Need-put-line-requires-2
 put-line-requires-2 c κs =
     let a = c .before .before .before .before .before .before .before .before .before .before .before .before .args in
@@ -54,9 +39,6 @@ put-line-requires-2 c κs =
     let size = counts-length one two (a .count) in
     omega (arith, c .before .before .before .before .before .before .before .before .before .before .before .before .pre .2, size, c .before .before .before .before .put-line .ensures .0, c .before .before .before .before .put-line .kept .1 .1 .0)
 
-slice-aggregate-put-line-3 : tie.Need-slice-aggregate-put-line-3
-slice-aggregate-put-line-3 c = search needs
-
 put-line-requires-3 : tie.Need-put-line-requires-3
 put-line-requires-3 c κs =
     let a = c .before .before .before .before .before .before .before .before .before .before .before .before .before .before .before .before .before .args in
@@ -64,9 +46,6 @@ put-line-requires-3 c κs =
     let two = now (a .two) in
     let size = counts-length one two (a .count) in
     omega (arith, c .before .before .before .before .before .before .before .before .before .before .before .before .before .before .before .before .before .pre .2, size, c .before .before .before .before .before .before .before .before .before .put-line .ensures .0, c .before .before .before .before .before .before .before .before .before .put-line .kept .1 .1 .0, c .before .before .before .before .put-line2 .ensures .0, c .before .before .before .before .put-line2 .kept .1 .1 .0)
-
-slice-aggregate-put-line-4 : tie.Need-slice-aggregate-put-line-4
-slice-aggregate-put-line-4 c = search needs
 
 put-line-requires-4 : tie.Need-put-line-requires-4
 put-line-requires-4 c κs =
@@ -78,9 +57,6 @@ put-line-requires-4 c κs =
     let same = ap (λ (n : ℕ). length (line strokesWord n)) k in
     omega (arith, c .before .before .before .before .before .before .before .before .before .before .before .before .before .before .before .before .before .before .before .before .before .before .pre .2, size, same, c .before .before .before .before .before .before .before .before .before .before .before .before .before .before .put-line .ensures .0, c .before .before .before .before .before .before .before .before .before .before .before .before .before .before .put-line .kept .1 .1 .0, c .before .before .before .before .before .before .before .before .before .put-line2 .ensures .0, c .before .before .before .before .before .before .before .before .before .put-line2 .kept .1 .1 .0, c .before .before .before .before .put-line3 .ensures .0, c .before .before .before .before .put-line3 .kept .1 .1 .0)
 
-slice-aggregate-put-line-5 : tie.Need-slice-aggregate-put-line-5
-slice-aggregate-put-line-5 c = search needs
-
 put-line-requires-5 : tie.Need-put-line-requires-5
 put-line-requires-5 c κs =
     let a = c .before .before .before .before .before .before .before .before .before .before .before .before .before .before .before .before .before .before .before .before .before .before .before .before .before .before .before .args in
@@ -90,9 +66,6 @@ put-line-requires-5 c κs =
     let k : c .before .before .before .before .before .before .before .before .before .before .before .before .before .before .before .before .before .before .before .before .before .before .before .strokes .result + c .before .before .before .before .before .before .before .before .before .before .before .before .before .before .before .before .before .before .before .before .before .before .strokes2 .result ≡ strokesOf one + strokesOf two = ap₂ _+_ (c .before .before .before .before .before .before .before .before .before .before .before .before .before .before .before .before .before .before .before .before .before .before .before .strokes .ensures) (c .before .before .before .before .before .before .before .before .before .before .before .before .before .before .before .before .before .before .before .before .before .before .strokes2 .ensures) in
     let same = ap (λ (n : ℕ). length (line strokesWord n)) k in
     omega (arith, c .before .before .before .before .before .before .before .before .before .before .before .before .before .before .before .before .before .before .before .before .before .before .before .before .before .before .before .pre .2, size, same, c .before .before .before .before .before .before .before .before .before .before .before .before .before .before .before .before .before .before .before .put-line .ensures .0, c .before .before .before .before .before .before .before .before .before .before .before .before .before .before .before .before .before .before .before .put-line .kept .1 .1 .0, c .before .before .before .before .before .before .before .before .before .before .before .before .before .before .put-line2 .ensures .0, c .before .before .before .before .before .before .before .before .before .before .before .before .before .before .put-line2 .kept .1 .1 .0, c .before .before .before .before .before .before .before .before .before .put-line3 .ensures .0, c .before .before .before .before .before .before .before .before .before .put-line3 .kept .1 .1 .0, c .before .before .before .before .put-line4 .ensures .0, c .before .before .before .before .put-line4 .kept .1 .1 .0)
-
-same-length : tie.Need-same-length
-same-length c = search needs
 
 returns : tie.Need-returns
 returns c =
@@ -141,19 +114,19 @@ pub put-counts-spec : {M : Type 1} → statement M
 put-counts-spec =
     tie.close
     (tie.spec
-    add-both
-    strokes-requires
-    strokes-requires-2
+    (λ c. search needs)
+    (λ c κs. search needs)
+    (λ c κs. search needs)
     add-strokes
-    slice-aggregate-put-line
+    (λ c. search needs)
     put-line-requires
-    slice-aggregate-put-line-2
+    (λ c. search needs)
     put-line-requires-2
-    slice-aggregate-put-line-3
+    (λ c. search needs)
     put-line-requires-3
-    slice-aggregate-put-line-4
+    (λ c. search needs)
     put-line-requires-4
-    slice-aggregate-put-line-5
+    (λ c. search needs)
     put-line-requires-5
-    same-length
+    (λ c. search needs)
     returns)

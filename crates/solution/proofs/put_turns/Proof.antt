@@ -13,9 +13,6 @@ use borrow.Author.Needs.{needs}
 use Rattle.solution.proofs.put_turns.Statement.{statement}
 use Rattle.solution.proofs.put_turns.Tie as tie
 
-slice-aggregate-put-bytes : tie.Need-slice-aggregate-put-bytes
-slice-aggregate-put-bytes c = search needs
-
 put-bytes-requires : tie.Need-put-bytes-requires
 put-bytes-requires c κs =
     let a = c .before .before .before .before .before .args in
@@ -89,7 +86,7 @@ pub put-turns-spec : {M : Type 1} → statement M
 put-turns-spec =
     tie.close
     (tie.spec
-    slice-aggregate-put-bytes
+    (λ c. search needs)
     put-bytes-requires
     put-spaced-requires
     put-spaced-requires-2

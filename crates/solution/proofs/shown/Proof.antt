@@ -7,14 +7,8 @@ use Rattle.solution.proofs.shown.Tie as tie
 returns : tie.Need-returns
 returns c = rw (lt-ltb (c .before .args .byte) 48 (c .if1 .taken))
 
-cast-result : tie.Need-cast-result
-cast-result c = search needs
-
-shared-slice-read-result : tie.Need-shared-slice-read-result
-shared-slice-read-result c = search needs
-
 returns-2 : tie.Need-returns-2
 returns-2 c = rw (le-ltb (c .before .before .args .byte) 48 (c .before .if1 .left))
 
 pub shown-spec : {M : Type 1} → statement M
-shown-spec = tie.close (tie.spec returns cast-result shared-slice-read-result returns-2)
+shown-spec = tie.close (tie.spec returns (λ c. search needs) (λ c. search needs) returns-2)

@@ -20,44 +20,11 @@ use borrow.Author.Needs.{needs}
 use Rattle.solution.proofs.solution.Statement.{statement}
 use Rattle.solution.proofs.solution.Tie as tie
 
-print-refused-requires : tie.Need-print-refused-requires
-print-refused-requires c κs = search needs
-
 returns : tie.Need-returns
 returns c = (c .print-refused .ensures .0 ∙ ap printedAs (sym (solution-long (now (c .before .before .before .before .before .args .input)) (now (c .before .before .before .before .before .args .moves)) (now (c .before .before .before .before .before .args .prunes)) (c .before .if1 .taken))), c .print-refused .ensures .1)
 
-find-requires : tie.Need-find-requires
-find-requires c κs = search needs
-
 slice-aggregate-read-strict : tie.Need-slice-aggregate-read-strict
 slice-aggregate-read-strict c = sym (length-take-le (c .before .find .result) (now (c .before .before .before .before .before .before .args .input)) (c .before .find .ensures .1))
-
-read-strict-requires : tie.Need-read-strict-requires
-read-strict-requires c κs = search needs
-
-enum-known-verdict : tie.Need-enum-known-verdict
-enum-known-verdict c = search needs
-
-print-refused-requires-2 : tie.Need-print-refused-requires-2
-print-refused-requires-2 c κs = search needs
-
-enum-told : tie.Need-enum-told
-enum-told c = search needs
-
-text-start-requires : tie.Need-text-start-requires
-text-start-requires c κs = search needs
-
-sub-with-cube : tie.Need-sub-with-cube
-sub-with-cube c = search needs
-
-part-with-cube-start : tie.Need-part-with-cube-start
-part-with-cube-start c = search needs
-
-part-with-cube-end : tie.Need-part-with-cube-end
-part-with-cube-end c = search needs
-
-with-cube-requires : tie.Need-with-cube-requires
-with-cube-requires c κs = search needs
 
 returns-2 : tie.Need-returns-2
 returns-2 c =
@@ -85,18 +52,18 @@ pub solution-spec : {M : Type 1} → statement M
 solution-spec =
     tie.close
     (tie.spec
-    print-refused-requires
+    (λ c κs. search needs)
     returns
-    find-requires
+    (λ c κs. search needs)
     slice-aggregate-read-strict
-    read-strict-requires
-    enum-known-verdict
-    print-refused-requires-2
-    enum-told
-    text-start-requires
-    sub-with-cube
-    part-with-cube-start
-    part-with-cube-end
-    with-cube-requires
+    (λ c κs. search needs)
+    (λ c. search needs)
+    (λ c κs. search needs)
+    (λ c. search needs)
+    (λ c κs. search needs)
+    (λ c. search needs)
+    (λ c. search needs)
+    (λ c. search needs)
+    (λ c κs. search needs)
     returns-2
     returns-3)

@@ -16,17 +16,8 @@ use borrow.Author.Needs.{needs}
 use Rattle.solution.proofs.with_cube.Statement.{statement}
 use Rattle.solution.proofs.with_cube.Tie as tie
 
-find-requires : tie.Need-find-requires
-find-requires c κs = search needs
-
 slice-aggregate-amount : tie.Need-slice-aggregate-amount
 slice-aggregate-amount c = sym (length-take-le (c .before .find .result) (now (c .before .before .before .before .before .args .text)) (c .before .find .ensures .1))
-
-amount-requires : tie.Need-amount-requires
-amount-requires c κs = search needs
-
-print-refused-requires : tie.Need-print-refused-requires
-print-refused-requires c κs = search needs
 
 returns : tie.Need-returns
 returns c =
@@ -36,24 +27,6 @@ returns c =
     let told : c .before .before .amount .result ≡ amountOf 23 (firstLine t) = c .before .before .amount .ensures ∙ ap (λ (k : ℕ). amountOf 23 (take k t)) at in
     let big : 31 < amountOf 23 (firstLine t) = omega (arith, told, c .before .if1 .taken) in
     (c .print-refused .ensures .0 ∙ ap printedAs (sym (limit-bad (a .cube) t (now (a .moves)) (now (a .prunes)) big)), c .print-refused .ensures .1)
-
-text-start-requires : tie.Need-text-start-requires
-text-start-requires c κs = search needs
-
-cast-with-limit : tie.Need-cast-with-limit
-cast-with-limit c = search needs
-
-sub-with-limit : tie.Need-sub-with-limit
-sub-with-limit c = search needs
-
-part-with-limit-start : tie.Need-part-with-limit-start
-part-with-limit-start c = search needs
-
-part-with-limit-end : tie.Need-part-with-limit-end
-part-with-limit-end c = search needs
-
-with-limit-requires : tie.Need-with-limit-requires
-with-limit-requires c κs = search needs
 
 returns-2 : tie.Need-returns-2
 returns-2 c =
@@ -71,15 +44,15 @@ pub with-cube-spec : {M : Type 1} → statement M
 with-cube-spec =
     tie.close
     (tie.spec
-    find-requires
+    (λ c κs. search needs)
     slice-aggregate-amount
-    amount-requires
-    print-refused-requires
+    (λ c κs. search needs)
+    (λ c κs. search needs)
     returns
-    text-start-requires
-    cast-with-limit
-    sub-with-limit
-    part-with-limit-start
-    part-with-limit-end
-    with-limit-requires
+    (λ c κs. search needs)
+    (λ c. search needs)
+    (λ c. search needs)
+    (λ c. search needs)
+    (λ c. search needs)
+    (λ c κs. search needs)
     returns-2)

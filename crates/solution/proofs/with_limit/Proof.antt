@@ -17,20 +17,8 @@ use borrow.Author.Needs.{needs}
 use Rattle.solution.proofs.with_limit.Statement.{statement}
 use Rattle.solution.proofs.with_limit.Tie as tie
 
-find-requires : tie.Need-find-requires
-find-requires c κs = search needs
-
 slice-aggregate-amount : tie.Need-slice-aggregate-amount
 slice-aggregate-amount c = sym (length-take-le (c .before .find .result) (now (c .before .before .before .before .before .args .text)) (c .before .find .ensures .1))
-
-amount-requires : tie.Need-amount-requires
-amount-requires c κs = search needs
-
-slice-aggregate-print-bytes : tie.Need-slice-aggregate-print-bytes
-slice-aggregate-print-bytes c = search needs
-
-print-bytes-requires : tie.Need-print-bytes-requires
-print-bytes-requires c κs = search needs
 
 returns : tie.Need-returns
 returns c =
@@ -41,15 +29,6 @@ returns c =
     let big : 4294967295 < amountOf 1000000000 (firstLine t) = omega (arith, told, c .before .before .if1 .taken) in
     (c .print-bytes .ensures .0 ∙ ap printedAs (sym (budget-bad (a .cube) (a .limit) t (now (a .moves)) (now (a .prunes)) big)), c .print-bytes .ensures .1)
 
-add-if2 : tie.Need-add-if2
-add-if2 c = search needs
-
-slice-aggregate-print-bytes-2 : tie.Need-slice-aggregate-print-bytes-2
-slice-aggregate-print-bytes-2 c = search needs
-
-print-bytes-requires-2 : tie.Need-print-bytes-requires-2
-print-bytes-requires-2 c κs = search needs
-
 returns-2 : tie.Need-returns-2
 returns-2 c =
     let a = c .before .before .before .before .before .before .before .before .before .before .args in
@@ -59,15 +38,6 @@ returns-2 c =
     let small : amountOf 1000000000 (firstLine t) ≤ 4294967295 = omega (arith, told, c .before .before .before .if1 .left) in
     let more : indexOf 10 t + 1 < length t = omega (arith, at, c .before .before .if2 .taken) in
     (c .print-bytes2 .ensures .0 ∙ ap printedAs (sym (budget-more (a .cube) (a .limit) t (now (a .moves)) (now (a .prunes)) small more)), c .print-bytes2 .ensures .1)
-
-cast-solve : tie.Need-cast-solve
-cast-solve c = search needs
-
-solve-requires : tie.Need-solve-requires
-solve-requires c κs = search needs
-
-print-answer-requires : tie.Need-print-answer-requires
-print-answer-requires c κs = search needs
 
 returns-3 : tie.Need-returns-3
 returns-3 c =
@@ -84,17 +54,17 @@ pub with-limit-spec : {M : Type 1} → statement M
 with-limit-spec =
     tie.close
     (tie.spec
-    find-requires
+    (λ c κs. search needs)
     slice-aggregate-amount
-    amount-requires
-    slice-aggregate-print-bytes
-    print-bytes-requires
+    (λ c κs. search needs)
+    (λ c. search needs)
+    (λ c κs. search needs)
     returns
-    add-if2
-    slice-aggregate-print-bytes-2
-    print-bytes-requires-2
+    (λ c. search needs)
+    (λ c. search needs)
+    (λ c κs. search needs)
     returns-2
-    cast-solve
-    solve-requires
-    print-answer-requires
+    (λ c. search needs)
+    (λ c κs. search needs)
+    (λ c κs. search needs)
     returns-3)

@@ -24,9 +24,6 @@ slice-aggregate-write-all c =
     let fits : said .len ≤ length (said .text) = omega (arith, room, c .before .if1 .taken) in
     sym (length-take-le (said .len) (said .text) fits)
 
-write-all-requires : tie.Need-write-all-requires
-write-all-requires c κs = search needs
-
 returns : tie.Need-returns
 returns c = search needs
 
@@ -34,4 +31,4 @@ returns-2 : tie.Need-returns-2
 returns-2 c = search needs
 
 pub print-spec : {M : Type 1} → statement M
-print-spec = tie.close (tie.spec array-share-prefix-text slice-aggregate-write-all write-all-requires returns returns-2)
+print-spec = tie.close (tie.spec array-share-prefix-text slice-aggregate-write-all (λ c κs. search needs) returns returns-2)

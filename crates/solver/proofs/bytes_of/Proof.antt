@@ -9,12 +9,6 @@ use borrow.Author.Needs.{needs}
 use Rattle.solver.proofs.bytes_of.Statement.{statement}
 use Rattle.solver.proofs.bytes_of.Tie as tie
 
-slice-aggregate-put-cube : tie.Need-slice-aggregate-put-cube
-slice-aggregate-put-cube c = search needs
-
-put-cube-requires : tie.Need-put-cube-requires
-put-cube-requires c κs = search needs
-
 returns : tie.Need-returns
 returns c =
     let cube = c .before .before .before .args .cube in
@@ -25,4 +19,4 @@ returns c =
     ap (λ (l : List ℕ). cubeOf l) (c .before .put-cube .ensures) ∙ cube-of-bytes cube k m n p
 
 pub bytes-of-spec : {M : Type 1} → statement M
-bytes-of-spec = tie.close (tie.spec slice-aggregate-put-cube put-cube-requires returns)
+bytes-of-spec = tie.close (tie.spec (λ c. search needs) (λ c κs. search needs) returns)

@@ -10,9 +10,6 @@ use borrow.Author.Needs.{needs}
 use Rattle.solver.proofs.last_check.Statement.{statement}
 use Rattle.solver.proofs.last_check.Tie as tie
 
-enum-told : tie.Need-enum-told
-enum-told c = search needs
-
 array-share-prefix-one : tie.Need-array-share-prefix-one
 array-share-prefix-one c =
     let s = c .before .before .before .before .args .s in
@@ -45,9 +42,6 @@ solves-it-requires c κs = (c .before .before .before .before .before .before .p
 returns : tie.Need-returns
 returns c = (sym (check-solved _ _ (c .before .before .before .before .before .before .enum-told .given .1) (sym (c .before .solves-it .ensures) ∙ c .if1 .taken)), c .before .before .before .before .before .before .before .before .pre .1)
 
-no-lists-requires : tie.Need-no-lists-requires
-no-lists-requires c κs = search needs
-
 returns-2 : tie.Need-returns-2
 returns-2 c = (c .no-lists .ensures ∙ sym (check-solved _ _ (c .before .before .before .before .before .before .before .enum-told .given .1) (sym (c .before .before .solves-it .ensures) ∙ c .before .if1 .left)), no-moves _ _ (c .no-lists .ensures))
 
@@ -58,13 +52,13 @@ pub last-check-spec : {M : Type 1} → statement M
 last-check-spec =
     tie.close
     (tie.spec
-    enum-told
+    (λ c. search needs)
     array-share-prefix-one
     slice-aggregate-solves-it
     array-share-prefix-two
     slice-aggregate-solves-it-2
     solves-it-requires
     returns
-    no-lists-requires
+    (λ c κs. search needs)
     returns-2
     returns-3)

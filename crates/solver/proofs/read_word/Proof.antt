@@ -10,38 +10,20 @@ use borrow.Author.Needs.{needs}
 use Rattle.solver.proofs.read_word.Statement.{statement}
 use Rattle.solver.proofs.read_word.Tie as tie
 
-cast-count : tie.Need-cast-count
-cast-count c = search needs
-
-sub-count : tie.Need-sub-count
-sub-count c = search needs
-
-no-lists-requires : tie.Need-no-lists-requires
-no-lists-requires c κs = search needs
-
 returns : tie.Need-returns
 returns c =
     let small : c .before .before .args .budget < 4294967296 = c .before .before .fits .budget .fits in
     λ q p₁ p₂ h g. (c .no-lists .ensures ∙ empty-is _ q _ 1 (g .word) (lt-of-le-of-lt h small) (c .before .if1 .taken) (lit< tt), no-moves _ _ (c .no-lists .ensures))
-
-no-lists-requires-2 : tie.Need-no-lists-requires-2
-no-lists-requires-2 c κs = search needs
 
 returns-2 : tie.Need-returns-2
 returns-2 c =
     let small : c .before .before .before .args .budget < 4294967296 = c .before .before .before .fits .budget .fits in
     λ q p₁ p₂ h g. (c .no-lists2 .ensures ∙ empty-is _ q _ 2 (g .word) (lt-of-le-of-lt h small) (c .before .if2 .taken) (lit< tt), no-moves _ _ (c .no-lists2 .ensures))
 
-no-lists-requires-3 : tie.Need-no-lists-requires-3
-no-lists-requires-3 c κs = search needs
-
 returns-3 : tie.Need-returns-3
 returns-3 c =
     let small : c .before .before .before .before .args .budget < 4294967296 = c .before .before .before .before .fits .budget .fits in
     λ q p₁ p₂ h g. (c .no-lists3 .ensures ∙ empty-is _ q _ 3 (g .word) (lt-of-le-of-lt h small) (c .before .if3 .taken) (lit< tt), no-moves _ _ (c .no-lists3 .ensures))
-
-sub-t8 : tie.Need-sub-t8
-sub-t8 c = search needs
 
 returns-4 : tie.Need-returns-4
 returns-4 c =
@@ -54,13 +36,13 @@ pub read-word-spec : {M : Type 1} → statement M
 read-word-spec =
     tie.close
     (tie.spec
-    cast-count
-    sub-count
-    no-lists-requires
+    (λ c. search needs)
+    (λ c. search needs)
+    (λ c κs. search needs)
     returns
-    no-lists-requires-2
+    (λ c κs. search needs)
     returns-2
-    no-lists-requires-3
+    (λ c κs. search needs)
     returns-3
-    sub-t8
+    (λ c. search needs)
     returns-4)

@@ -5,14 +5,8 @@ use borrow.Author.Needs.{needs}
 use Rattle.solver.proofs.search_refusal.Statement.{statement}
 use Rattle.solver.proofs.search_refusal.Tie as tie
 
-refusal-requires : tie.Need-refusal-requires
-refusal-requires c κs = search needs
-
 returns : tie.Need-returns
 returns c = c .before .refusal .ensures ∙ sym (range-refused _ (λ e. c .if1 .taken (c .before .refusal .ensures ∙ e)))
-
-is-solvable-requires : tie.Need-is-solvable-requires
-is-solvable-requires c κs = search needs
 
 returns-2 : tie.Need-returns-2
 returns-2 c = sym (solvable-refused _ (sym (c .before .before .before .refusal .ensures) ∙ c .before .before .if1 .left) (sym (c .before .is-solvable .ensures) ∙ c .if2 .taken))
@@ -22,4 +16,4 @@ returns-3 c = sym (solvable-refused _ (sym (c .before .before .before .refusal .
 
 pub search-refusal-spec : {M : Type 1} → statement M
 search-refusal-spec =
-    tie.close (tie.spec refusal-requires returns is-solvable-requires returns-2 returns-3)
+    tie.close (tie.spec (λ c κs. search needs) returns (λ c κs. search needs) returns-2 returns-3)

@@ -9,29 +9,14 @@ use borrow.Author.Needs.{needs}
 use Rattle.solver.proofs.solve.Statement.{statement}
 use Rattle.solver.proofs.solve.Tie as tie
 
-no-lists-requires : tie.Need-no-lists-requires
-no-lists-requires c κs = search needs
-
 returns : tie.Need-returns
 returns c = (c .no-lists .ensures ∙ sym (solve-limit _ _ _ _ _ (c .before .if1 .taken)), no-moves _ _ (c .no-lists .ensures))
-
-no-lists-requires-2 : tie.Need-no-lists-requires-2
-no-lists-requires-2 c κs = search needs
 
 returns-2 : tie.Need-returns-2
 returns-2 c = (c .no-lists2 .ensures ∙ sym (solve-moves _ _ _ _ _ (c .before .before .if1 .left) (c .before .if2 .taken)), no-moves _ _ (c .no-lists2 .ensures))
 
-no-lists-requires-3 : tie.Need-no-lists-requires-3
-no-lists-requires-3 c κs = search needs
-
 returns-3 : tie.Need-returns-3
 returns-3 c = (c .no-lists3 .ensures ∙ sym (solve-prunes _ _ _ _ _ (c .before .before .before .if1 .left) (c .before .before .if2 .left) (c .before .if3 .taken)), no-moves _ _ (c .no-lists3 .ensures))
-
-search-refusal-requires : tie.Need-search-refusal-requires
-search-refusal-requires c κs = search needs
-
-no-lists-requires-4 : tie.Need-no-lists-requires-4
-no-lists-requires-4 c κs = search needs
 
 returns-4 : tie.Need-returns-4
 returns-4 c =
@@ -57,14 +42,14 @@ pub solve-spec : {M : Type 1} → statement M
 solve-spec =
     tie.close
     (tie.spec
-    no-lists-requires
+    (λ c κs. search needs)
     returns
-    no-lists-requires-2
+    (λ c κs. search needs)
     returns-2
-    no-lists-requires-3
+    (λ c κs. search needs)
     returns-3
-    search-refusal-requires
-    no-lists-requires-4
+    (λ c κs. search needs)
+    (λ c κs. search needs)
     returns-4
     search-requires
     last-check-requires

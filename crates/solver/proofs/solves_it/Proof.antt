@@ -11,9 +11,6 @@ use borrow.Author.Needs.{needs}
 use Rattle.solver.proofs.solves_it.Statement.{statement}
 use Rattle.solver.proofs.solves_it.Tie as tie
 
-apply-moves-requires : tie.Need-apply-moves-requires
-apply-moves-requires c κs = search needs
-
 apply-moves-requires-2 : tie.Need-apply-moves-requires-2
 apply-moves-requires-2 c κs =
     let s = c .before .before .before .pre in
@@ -24,9 +21,6 @@ apply-moves-requires-2 c κs =
     let p : length (cube .eo) ≡ 12 = search needs in
     (subst (λ (q : CubieCube). refusalOf q ≡ 0) (sym (c .apply-moves .ensures)) (no-refusal (moves-range (in-range cube (s .0) k m n p) _ (s .1))), s .2)
 
-is-solved-requires : tie.Need-is-solved-requires
-is-solved-requires c κs = search needs
-
 returns : tie.Need-returns
 returns c =
     let a = c .before .before .before .before .before .args in
@@ -35,4 +29,4 @@ returns c =
 
 pub solves-it-spec : {M : Type 1} → statement M
 solves-it-spec =
-    tie.close (tie.spec apply-moves-requires apply-moves-requires-2 is-solved-requires returns)
+    tie.close (tie.spec (λ c κs. search needs) apply-moves-requires-2 (λ c κs. search needs) returns)

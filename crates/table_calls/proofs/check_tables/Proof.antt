@@ -9,27 +9,6 @@ use borrow.Author.Needs.{needs}
 use Rattle.table_calls.proofs.check_tables.Statement.{statement}
 use Rattle.table_calls.proofs.check_tables.Tie as tie
 
-check-tables-requires : tie.Need-check-tables-requires
-check-tables-requires c κs = search needs
-
-enum-told : tie.Need-enum-told
-enum-told c = search needs
-
-enum-told-2 : tie.Need-enum-told-2
-enum-told-2 c = search needs
-
-enum-known-checked : tie.Need-enum-known-checked
-enum-known-checked c = search needs
-
-cast-result : tie.Need-cast-result
-cast-result c = search needs
-
-mul-result : tie.Need-mul-result
-mul-result c = search needs
-
-add-result : tie.Need-add-result
-add-result c = search needs
-
 mul-result-2 : tie.Need-mul-result-2
 mul-result-2 c =
     let k = subst (Checks (now (c .before .before .before .before .before .before .args .moves)) (now (c .before .before .before .before .before .before .args .prunes))) (c .before .checked .given .1) (c .before .before .before .check-tables .ensures) in
@@ -53,13 +32,13 @@ pub check-tables-spec : {M : Type 1} → statement M
 check-tables-spec =
     tie.close
     (tie.spec
-    check-tables-requires
-    enum-told
-    enum-told-2
-    enum-known-checked
-    cast-result
-    mul-result
-    add-result
+    (λ c κs. search needs)
+    (λ c. search needs)
+    (λ c. search needs)
+    (λ c. search needs)
+    (λ c. search needs)
+    (λ c. search needs)
+    (λ c. search needs)
     mul-result-2
     add-result-2
     returns

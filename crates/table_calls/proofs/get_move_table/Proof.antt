@@ -16,12 +16,6 @@ returns c =
     let s = now (c .before .before .args .table) in
     unfit t s (no-table t s (c .if1 .taken))
 
-rows-of-requires : tie.Need-rows-of-requires
-rows-of-requires c κs = search needs
-
-columns-of-requires : tie.Need-columns-of-requires
-columns-of-requires c κs = search needs
-
 mul-if2 : tie.Need-mul-if2
 mul-if2 c =
     let t = c .before .before .before .before .args .t in
@@ -37,9 +31,6 @@ returns-2 c =
 fill-requires : tie.Need-fill-requires
 fill-requires c κs = (omega (arith, c .before .before .before .before .if1 .left), c .before .if2 .left ∙ ap₂ _*_ (c .before .before .before .rows-of .ensures) (c .before .before .columns-of .ensures))
 
-same-length : tie.Need-same-length
-same-length c = search needs
-
 returns-3 : tie.Need-returns-3
 returns-3 c =
     let t = c .before .before .before .before .before .before .before .before .before .args .t in
@@ -52,10 +43,10 @@ get-move-table-spec =
     tie.close
     (tie.spec
     returns
-    rows-of-requires
-    columns-of-requires
+    (λ c κs. search needs)
+    (λ c κs. search needs)
     mul-if2
     returns-2
     fill-requires
-    same-length
+    (λ c. search needs)
     returns-3)

@@ -8,14 +8,8 @@ use Rattle.table_calls.proofs.get_move_tables.Tie as tie
 returns : tie.Need-returns
 returns c = no-block (now (c .before .before .args .moves)) (c .if1 .taken)
 
-get-move-tables-requires : tie.Need-get-move-tables-requires
-get-move-tables-requires c κs = search needs
-
-same-length : tie.Need-same-length
-same-length c = search needs
-
 returns-2 : tie.Need-returns-2
 returns-2 c = block (now (c .before .before .before .before .before .before .args .moves)) (c .before .before .before .before .if1 .left) _ (c .before .before .get-move-tables .ensures .1)
 
 pub get-move-tables-spec : {M : Type 1} → statement M
-get-move-tables-spec = tie.close (tie.spec returns get-move-tables-requires same-length returns-2)
+get-move-tables-spec = tie.close (tie.spec returns (λ c κs. search needs) (λ c. search needs) returns-2)

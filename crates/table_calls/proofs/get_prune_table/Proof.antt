@@ -7,56 +7,20 @@ use borrow.Author.Needs.{needs}
 use Rattle.table_calls.proofs.get_prune_table.Statement.{statement}
 use Rattle.table_calls.proofs.get_prune_table.Tie as tie
 
-get-co-e-table-requires : tie.Need-get-co-e-table-requires
-get-co-e-table-requires c κs = search needs
-
-number-requires : tie.Need-number-requires
-number-requires c κs = search needs
-
-get-eo-e-table-requires : tie.Need-get-eo-e-table-requires
-get-eo-e-table-requires c κs = search needs
-
-number-requires-2 : tie.Need-number-requires-2
-number-requires-2 c κs = search needs
-
-get-cp-e-table-requires : tie.Need-get-cp-e-table-requires
-get-cp-e-table-requires c κs = search needs
-
-number-requires-3 : tie.Need-number-requires-3
-number-requires-3 c κs = search needs
-
-get-ep-e-table-requires : tie.Need-get-ep-e-table-requires
-get-ep-e-table-requires c κs = search needs
-
-number-requires-4 : tie.Need-number-requires-4
-number-requires-4 c κs = search needs
-
-same-length : tie.Need-same-length
-same-length c = search needs
-
 returns : tie.Need-returns
 returns c =
     let a = c .before .before .before .before .before .before .before .before .before .args in
     known (a .t) (now (a .first)) (now (a .second)) (now (a .table)) _ _ 6 (c .before .before .before .before .before .match .keys1) (omega arith) (omega arith) (c .before .before .before .get-co-e-table .result) (c .before .before .before .get-co-e-table .ensures) (c .number .ensures)
-
-same-length-2 : tie.Need-same-length-2
-same-length-2 c = search needs
 
 returns-2 : tie.Need-returns-2
 returns-2 c =
     let a = c .before .before .before .before .before .before .before .before .before .args in
     known (a .t) (now (a .first)) (now (a .second)) (now (a .table)) _ _ 7 (c .before .before .before .before .before .match .keys2) (omega arith) (omega arith) (c .before .before .before .get-eo-e-table .result) (c .before .before .before .get-eo-e-table .ensures) (c .number2 .ensures)
 
-same-length-3 : tie.Need-same-length-3
-same-length-3 c = search needs
-
 returns-3 : tie.Need-returns-3
 returns-3 c =
     let a = c .before .before .before .before .before .before .before .before .before .args in
     known (a .t) (now (a .first)) (now (a .second)) (now (a .table)) _ _ 8 (c .before .before .before .before .before .match .keys3) (omega arith) (omega arith) (c .before .before .before .get-cp-e-table .result) (c .before .before .before .get-cp-e-table .ensures) (c .number3 .ensures)
-
-same-length-4 : tie.Need-same-length-4
-same-length-4 c = search needs
 
 returns-4 : tie.Need-returns-4
 returns-4 c =
@@ -72,20 +36,20 @@ pub get-prune-table-spec : {M : Type 1} → statement M
 get-prune-table-spec =
     tie.close
     (tie.spec
-    get-co-e-table-requires
-    number-requires
-    get-eo-e-table-requires
-    number-requires-2
-    get-cp-e-table-requires
-    number-requires-3
-    get-ep-e-table-requires
-    number-requires-4
-    same-length
+    (λ c κs. search needs)
+    (λ c κs. search needs)
+    (λ c κs. search needs)
+    (λ c κs. search needs)
+    (λ c κs. search needs)
+    (λ c κs. search needs)
+    (λ c κs. search needs)
+    (λ c κs. search needs)
+    (λ c. search needs)
     returns
-    same-length-2
+    (λ c. search needs)
     returns-2
-    same-length-3
+    (λ c. search needs)
     returns-3
-    same-length-4
+    (λ c. search needs)
     returns-4
     returns-5)

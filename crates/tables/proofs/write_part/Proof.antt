@@ -9,29 +9,14 @@ use Rattle.tables.proofs.write_part.Tie as tie
 returns : tie.Need-returns
 returns c = search needs
 
-mul-len : tie.Need-mul-len
-mul-len c = search needs
-
-large-buffer-requires : tie.Need-large-buffer-requires
-large-buffer-requires c κs = search needs
-
-array-borrow-prefix-room : tie.Need-array-borrow-prefix-room
-array-borrow-prefix-room c = search needs
-
 slice-aggregate-to-bytes : tie.Need-slice-aggregate-to-bytes
 slice-aggregate-to-bytes c = front (c .before .large-buffer .result) (length (now (c .before .before .before .before .args .part))) (c .before .large-buffer .ensures) (c .before .before .if1 .left)
-
-to-bytes-requires : tie.Need-to-bytes-requires
-to-bytes-requires c κs = search needs
 
 array-share-prefix-room : tie.Need-array-share-prefix-room
 array-share-prefix-room c = room-kept (c .before .before .before .large-buffer .result) (length (now (c .before .before .before .before .before .before .args .part))) (c .before .before .before .large-buffer .ensures) (c .before .before .before .before .if1 .left) (c .before .to-bytes .last .1 .0) (c .before .to-bytes .kept .1 .0)
 
 slice-aggregate-write-all : tie.Need-slice-aggregate-write-all
 slice-aggregate-write-all c = front-kept (c .before .before .before .before .large-buffer .result) (length (now (c .before .before .before .before .before .before .before .args .part))) (c .before .before .before .before .large-buffer .ensures) (c .before .before .before .before .before .if1 .left) (c .before .before .to-bytes .last .1 .0) (c .before .before .to-bytes .kept .1 .0)
-
-write-all-requires : tie.Need-write-all-requires
-write-all-requires c κs = search needs
 
 returns-2 : tie.Need-returns-2
 returns-2 c = search needs
@@ -41,12 +26,12 @@ write-part-spec =
     tie.close
     (tie.spec
     returns
-    mul-len
-    large-buffer-requires
-    array-borrow-prefix-room
+    (λ c. search needs)
+    (λ c κs. search needs)
+    (λ c. search needs)
     slice-aggregate-to-bytes
-    to-bytes-requires
+    (λ c κs. search needs)
     array-share-prefix-room
     slice-aggregate-write-all
-    write-all-requires
+    (λ c κs. search needs)
     returns-2)

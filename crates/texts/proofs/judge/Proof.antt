@@ -16,12 +16,6 @@ returns : tie.Need-returns
 unfolding judgeNumber judgeRoom judgeCount
 returns c = let e = ne-eqb (length (now (c .before .before .before .args .out))) 64 (c .if1 .taken) in (rw e, (rw e, rw e))
 
-judge-requires : tie.Need-judge-requires
-judge-requires c κs = search needs
-
-slice-aggregate-copy-in : tie.Need-slice-aggregate-copy-in
-slice-aggregate-copy-in c = search needs
-
 copy-in-requires : tie.Need-copy-in-requires
 copy-in-requires c κs =
     let s = now (c .before .before .before .before .before .before .before .args .input) in
@@ -29,9 +23,6 @@ copy-in-requires c κs =
     let sizes = printed-sizes s in
     let size : length (c .before .before .before .judge .result .text) ≡ 64 = ap (λ (p : Printed). length (p .text)) is ∙ sizes .0 in
     omega (arith, size, c .before .before .before .before .if1 .left)
-
-same-length : tie.Need-same-length
-same-length c = search needs
 
 returns-2 : tie.Need-returns-2
 unfolding judgeNumber judgeRoom judgeCount
@@ -49,8 +40,8 @@ judge-spec =
     tie.close
     (tie.spec
     returns
-    judge-requires
-    slice-aggregate-copy-in
+    (λ c κs. search needs)
+    (λ c. search needs)
     copy-in-requires
-    same-length
+    (λ c. search needs)
     returns-2)

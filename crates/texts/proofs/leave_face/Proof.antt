@@ -10,15 +10,6 @@ use borrow.Author.Needs.{needs}
 use Rattle.texts.proofs.leave_face.Statement.{statement}
 use Rattle.texts.proofs.leave_face.Tie as tie
 
-enum-known-verdict : tie.Need-enum-known-verdict
-enum-known-verdict c = search needs
-
-enum-told : tie.Need-enum-told
-enum-told c = search needs
-
-slice-aggregate-copy-in : tie.Need-slice-aggregate-copy-in
-slice-aggregate-copy-in c = search needs
-
 copy-in-requires : tie.Need-copy-in-requires
 copy-in-requires c κs =
     let g = c .before .before .before .before .before .before .good in
@@ -28,9 +19,6 @@ copy-in-requires c κs =
 
 returns : tie.Need-returns
 returns c = search needs
-
-same-length : tie.Need-same-length
-same-length c = search needs
 
 returns-2 : tie.Need-returns-2
 returns-2 c =
@@ -43,10 +31,10 @@ pub leave-face-spec : {M : Type 1} → statement M
 leave-face-spec =
     tie.close
     (tie.spec
-    enum-known-verdict
-    enum-told
-    slice-aggregate-copy-in
+    (λ c. search needs)
+    (λ c. search needs)
+    (λ c. search needs)
     copy-in-requires
     returns
-    same-length
+    (λ c. search needs)
     returns-2)

@@ -11,18 +11,6 @@ returns c = rw (ne-eqb _ 40 (c .if1 .taken)) (record { number = refl; bytes = re
 returns-2 : tie.Need-returns-2
 returns-2 c = rw (eq-eqb _ 40 (c .before .if1 .left), ne-eqb _ 54 (c .if2 .taken)) (record { number = refl; bytes = refl })
 
-cube-of-requires : tie.Need-cube-of-requires
-cube-of-requires c κs = search needs
-
-picture-requires : tie.Need-picture-requires
-picture-requires c κs = search needs
-
-leave-face-requires : tie.Need-leave-face-requires
-leave-face-requires c κs = search needs
-
-same-length : tie.Need-same-length
-same-length c = search needs
-
 returns-3 : tie.Need-returns-3
 returns-3 c = rw (eq-eqb _ 40 (c .before .before .before .before .before .before .before .if1 .left), eq-eqb _ 54 (c .before .before .before .before .before .before .if2 .left)) (rw (c .before .before .before .before .picture .ensures, c .before .before .before .before .before .cube-of .ensures) at (c .before .before .leave-face .ensures))
 
@@ -32,8 +20,8 @@ picture-spec =
     (tie.spec
     returns
     returns-2
-    cube-of-requires
-    picture-requires
-    leave-face-requires
-    same-length
+    (λ c κs. search needs)
+    (λ c κs. search needs)
+    (λ c κs. search needs)
+    (λ c. search needs)
     returns-3)

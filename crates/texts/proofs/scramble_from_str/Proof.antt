@@ -9,25 +9,10 @@ use borrow.Author.Needs.{needs}
 use Rattle.texts.proofs.scramble_from_str.Statement.{statement}
 use Rattle.texts.proofs.scramble_from_str.Tie as tie
 
-scramble-from-str-requires : tie.Need-scramble-from-str-requires
-scramble-from-str-requires c κs = search needs
-
-enum-known-parsed : tie.Need-enum-known-parsed
-enum-known-parsed c = search needs
-
-enum-known-parsed-2 : tie.Need-enum-known-parsed-2
-enum-known-parsed-2 c = search needs
-
-same-length : tie.Need-same-length
-same-length c = search needs
-
 returns : tie.Need-returns
 returns c =
     let e : parsedText (now (c .before .before .before .before .before .before .before .before .before .args .text)) (now (c .before .before .before .before .before .before .before .before .before .args .list)) ≡ Refused (c .before .parsed .given .0 .0) = sym (c .before .before .before .before .before .scramble-from-str .ensures .0) ∙ c .before .parsed .given .1 in
     (sym (ap parsedNumber e), (c .before .before .before .before .before .scramble-from-str .ensures .1, sym (ap (λ (p : Parsed). parsedCount p (now (c .before .before .before .before .before .before .before .before .before .args .count))) e)))
-
-same-length-2 : tie.Need-same-length-2
-same-length-2 c = search needs
 
 returns-2 : tie.Need-returns-2
 returns-2 c =
@@ -38,10 +23,10 @@ pub scramble-from-str-spec : {M : Type 1} → statement M
 scramble-from-str-spec =
     tie.close
     (tie.spec
-    scramble-from-str-requires
-    enum-known-parsed
-    enum-known-parsed-2
-    same-length
+    (λ c κs. search needs)
+    (λ c. search needs)
+    (λ c. search needs)
+    (λ c. search needs)
     returns
-    same-length-2
+    (λ c. search needs)
     returns-2)

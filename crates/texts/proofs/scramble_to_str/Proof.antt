@@ -10,25 +10,10 @@ use borrow.Author.Needs.{needs}
 use Rattle.texts.proofs.scramble_to_str.Statement.{statement}
 use Rattle.texts.proofs.scramble_to_str.Tie as tie
 
-scramble-to-str-requires : tie.Need-scramble-to-str-requires
-scramble-to-str-requires c κs = search needs
-
-enum-known-written : tie.Need-enum-known-written
-enum-known-written c = search needs
-
-enum-known-written-2 : tie.Need-enum-known-written-2
-enum-known-written-2 c = search needs
-
-same-length : tie.Need-same-length
-same-length c = search needs
-
 returns : tie.Need-returns
 returns c =
     let e : writtenText (now (c .before .before .before .before .before .before .before .before .before .args .list)) (textOf (now (c .before .before .before .before .before .before .before .before .before .args .list))) (now (c .before .before .before .before .before .before .before .before .before .args .text)) ≡ Refused (c .before .written .given .0 .0) = sym (c .before .before .before .before .before .scramble-to-str .ensures .0) ∙ c .before .written .given .1 in
     (sym (ap writtenNumber e), (c .before .before .before .before .before .scramble-to-str .ensures .1, sym (ap (λ (p : Written). writtenCount p (now (c .before .before .before .before .before .before .before .before .before .args .count))) e)))
-
-same-length-2 : tie.Need-same-length-2
-same-length-2 c = search needs
 
 returns-2 : tie.Need-returns-2
 returns-2 c =
@@ -39,10 +24,10 @@ pub scramble-to-str-spec : {M : Type 1} → statement M
 scramble-to-str-spec =
     tie.close
     (tie.spec
-    scramble-to-str-requires
-    enum-known-written
-    enum-known-written-2
-    same-length
+    (λ c κs. search needs)
+    (λ c. search needs)
+    (λ c. search needs)
+    (λ c. search needs)
     returns
-    same-length-2
+    (λ c. search needs)
     returns-2)

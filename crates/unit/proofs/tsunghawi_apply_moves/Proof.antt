@@ -3,14 +3,8 @@ use borrow.Author.Needs.{needs}
 use Rattle.unit.proofs.tsunghawi_apply_moves.Statement.{statement}
 use Rattle.unit.proofs.tsunghawi_apply_moves.Tie as tie
 
-apply-moves-requires : tie.Need-apply-moves-requires
-apply-moves-requires c κs = search needs
-
-same-length : tie.Need-same-length
-same-length c = search needs
-
 returns : tie.Need-returns
 returns c = c .before .before .apply-moves .ensures
 
 pub tsunghawi-apply-moves-spec : {M : Type 1} → statement M
-tsunghawi-apply-moves-spec = tie.close (tie.spec apply-moves-requires same-length returns)
+tsunghawi-apply-moves-spec = tie.close (tie.spec (λ c κs. search needs) (λ c. search needs) returns)

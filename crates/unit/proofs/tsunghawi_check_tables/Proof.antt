@@ -3,11 +3,8 @@ use borrow.Author.Needs.{needs}
 use Rattle.unit.proofs.tsunghawi_check_tables.Statement.{statement}
 use Rattle.unit.proofs.tsunghawi_check_tables.Tie as tie
 
-check-tables-requires : tie.Need-check-tables-requires
-check-tables-requires c κs = search needs
-
 returns : tie.Need-returns
 returns c = c .check-tables .ensures
 
 pub tsunghawi-check-tables-spec : {M : Type 1} → statement M
-tsunghawi-check-tables-spec = tie.close (tie.spec check-tables-requires returns)
+tsunghawi-check-tables-spec = tie.close (tie.spec (λ c κs. search needs) returns)

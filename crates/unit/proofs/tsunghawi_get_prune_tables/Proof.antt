@@ -3,14 +3,8 @@ use borrow.Author.Needs.{needs}
 use Rattle.unit.proofs.tsunghawi_get_prune_tables.Statement.{statement}
 use Rattle.unit.proofs.tsunghawi_get_prune_tables.Tie as tie
 
-get-prune-tables-requires : tie.Need-get-prune-tables-requires
-get-prune-tables-requires c κs = search needs
-
-same-length : tie.Need-same-length
-same-length c = search needs
-
 returns : tie.Need-returns
 returns c = c .before .before .get-prune-tables .ensures
 
 pub tsunghawi-get-prune-tables-spec : {M : Type 1} → statement M
-tsunghawi-get-prune-tables-spec = tie.close (tie.spec get-prune-tables-requires same-length returns)
+tsunghawi-get-prune-tables-spec = tie.close (tie.spec (λ c κs. search needs) (λ c. search needs) returns)

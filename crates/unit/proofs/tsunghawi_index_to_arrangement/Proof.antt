@@ -3,14 +3,8 @@ use borrow.Author.Needs.{needs}
 use Rattle.unit.proofs.tsunghawi_index_to_arrangement.Statement.{statement}
 use Rattle.unit.proofs.tsunghawi_index_to_arrangement.Tie as tie
 
-from-index-requires : tie.Need-from-index-requires
-from-index-requires c κs = search needs
-
-same-length : tie.Need-same-length
-same-length c = search needs
-
 returns : tie.Need-returns
 returns c = c .before .before .from-index .ensures
 
 pub tsunghawi-index-to-arrangement-spec : {M : Type 1} → statement M
-tsunghawi-index-to-arrangement-spec = tie.close (tie.spec from-index-requires same-length returns)
+tsunghawi-index-to-arrangement-spec = tie.close (tie.spec (λ c κs. search needs) (λ c. search needs) returns)

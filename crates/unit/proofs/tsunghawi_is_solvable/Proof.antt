@@ -3,14 +3,8 @@ use borrow.Author.Needs.{needs}
 use Rattle.unit.proofs.tsunghawi_is_solvable.Statement.{statement}
 use Rattle.unit.proofs.tsunghawi_is_solvable.Tie as tie
 
-is-solvable-requires : tie.Need-is-solvable-requires
-is-solvable-requires c κs = search needs
-
-same-length : tie.Need-same-length
-same-length c = search needs
-
 returns : tie.Need-returns
 returns c = c .before .before .is-solvable .ensures
 
 pub tsunghawi-is-solvable-spec : {M : Type 1} → statement M
-tsunghawi-is-solvable-spec = tie.close (tie.spec is-solvable-requires same-length returns)
+tsunghawi-is-solvable-spec = tie.close (tie.spec (λ c κs. search needs) (λ c. search needs) returns)

@@ -3,14 +3,8 @@ use borrow.Author.Needs.{needs}
 use Rattle.unit.proofs.tsunghawi_read_strict.Statement.{statement}
 use Rattle.unit.proofs.tsunghawi_read_strict.Tie as tie
 
-read-strict-requires : tie.Need-read-strict-requires
-read-strict-requires c κs = search needs
-
-same-length : tie.Need-same-length
-same-length c = search needs
-
 returns : tie.Need-returns
 returns c = c .before .before .read-strict .ensures
 
 pub tsunghawi-read-strict-spec : {M : Type 1} → statement M
-tsunghawi-read-strict-spec = tie.close (tie.spec read-strict-requires same-length returns)
+tsunghawi-read-strict-spec = tie.close (tie.spec (λ c κs. search needs) (λ c. search needs) returns)

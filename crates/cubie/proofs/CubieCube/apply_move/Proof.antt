@@ -9,18 +9,6 @@ use borrow.Author.Needs.{needs}
 use Rattle.cubie.proofs.CubieCube.apply_move.Statement.{statement}
 use Rattle.cubie.proofs.CubieCube.apply_move.Tie as tie
 
-refusal-requires : tie.Need-refusal-requires
-refusal-requires c κs = search needs
-
-move-refusal-requires : tie.Need-move-refusal-requires
-move-refusal-requires c κs = search needs
-
-first-requires : tie.Need-first-requires
-first-requires c κs = search needs
-
-cube-refused-requires : tie.Need-cube-refused-requires
-cube-refused-requires c κs = search needs
-
 returns : tie.Need-returns
 returns c = c .cube-refused .ensures ∙ cubed-refused _ _ (c .before .before .first .ensures ∙ ap₂ firstOf (c .before .before .before .before .refusal .ensures) (c .before .before .before .move-refusal .ensures)) (c .before .if1 .taken) _
 
@@ -37,10 +25,10 @@ pub apply-move-spec : {M : Type 1} → statement M
 apply-move-spec =
     tie.close
     (tie.spec
-    refusal-requires
-    move-refusal-requires
-    first-requires
-    cube-refused-requires
+    (λ c κs. search needs)
+    (λ c κs. search needs)
+    (λ c κs. search needs)
+    (λ c κs. search needs)
     returns
     apply-move-requires
     returns-2)

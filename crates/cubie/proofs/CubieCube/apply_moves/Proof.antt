@@ -16,20 +16,8 @@ use borrow.Author.Needs.{needs}
 use Rattle.cubie.proofs.CubieCube.apply_moves.Statement.{statement}
 use Rattle.cubie.proofs.CubieCube.apply_moves.Tie as tie
 
-refusal-requires : tie.Need-refusal-requires
-refusal-requires c κs = search needs
-
-cube-refused-requires : tie.Need-cube-refused-requires
-cube-refused-requires c κs = search needs
-
 returns : tie.Need-returns
 returns c = c .cube-refused .ensures ∙ cubed-refused _ _ (c .before .before .refusal .ensures ∙ first-refused _ _ (λ z. c .before .if1 .taken (c .before .before .refusal .ensures ∙ z))) (c .before .if1 .taken) _
-
-in-range-requires : tie.Need-in-range-requires
-in-range-requires c κs = search needs
-
-cube-refused-requires-2 : tie.Need-cube-refused-requires-2
-cube-refused-requires-2 c κs = search needs
 
 returns-2 : tie.Need-returns-2
 returns-2 c =
@@ -53,11 +41,11 @@ pub apply-moves-spec : {M : Type 1} → statement M
 apply-moves-spec =
     tie.close
     (tie.spec
-    refusal-requires
-    cube-refused-requires
+    (λ c κs. search needs)
+    (λ c κs. search needs)
     returns
-    in-range-requires
-    cube-refused-requires-2
+    (λ c κs. search needs)
+    (λ c κs. search needs)
     returns-2
     apply-moves-requires
     returns-3)

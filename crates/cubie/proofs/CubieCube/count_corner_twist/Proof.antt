@@ -5,9 +5,6 @@ use borrow.Author.Needs.{needs}
 use Rattle.cubie.proofs.CubieCube.count_corner_twist.Statement.{statement}
 use Rattle.cubie.proofs.CubieCube.count_corner_twist.Tie as tie
 
-refusal-requires : tie.Need-refusal-requires
-refusal-requires c κs = search needs
-
 returns : tie.Need-returns
 returns c = counted-refused _ _ (c .before .refusal .ensures) (c .if1 .taken) _
 
@@ -19,4 +16,4 @@ returns-2 c = counted-is _ _ (c .before .before .refusal .ensures) (c .before .i
 
 pub count-corner-twist-spec : {M : Type 1} → statement M
 count-corner-twist-spec =
-    tie.close (tie.spec refusal-requires returns count-corner-twist-requires returns-2)
+    tie.close (tie.spec (λ c κs. search needs) returns count-corner-twist-requires returns-2)

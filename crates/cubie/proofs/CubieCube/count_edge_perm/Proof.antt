@@ -5,18 +5,12 @@ use borrow.Author.Needs.{needs}
 use Rattle.cubie.proofs.CubieCube.count_edge_perm.Statement.{statement}
 use Rattle.cubie.proofs.CubieCube.count_edge_perm.Tie as tie
 
-refusal-requires : tie.Need-refusal-requires
-refusal-requires c κs = search needs
-
 returns : tie.Need-returns
 returns c = counted-refused _ _ (c .before .refusal .ensures) (c .if1 .taken) _
-
-count-edge-perm-requires : tie.Need-count-edge-perm-requires
-count-edge-perm-requires c κs = search needs
 
 returns-2 : tie.Need-returns-2
 returns-2 c = counted-is _ _ (c .before .before .refusal .ensures) (c .before .if1 .left) _ _ (c .count-edge-perm .ensures)
 
 pub count-edge-perm-spec : {M : Type 1} → statement M
 count-edge-perm-spec =
-    tie.close (tie.spec refusal-requires returns count-edge-perm-requires returns-2)
+    tie.close (tie.spec (λ c κs. search needs) returns (λ c κs. search needs) returns-2)

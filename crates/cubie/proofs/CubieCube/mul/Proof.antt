@@ -8,18 +8,6 @@ use borrow.Author.Needs.{needs}
 use Rattle.cubie.proofs.CubieCube.mul.Statement.{statement}
 use Rattle.cubie.proofs.CubieCube.mul.Tie as tie
 
-refusal-requires : tie.Need-refusal-requires
-refusal-requires c κs = search needs
-
-refusal-requires-2 : tie.Need-refusal-requires-2
-refusal-requires-2 c κs = search needs
-
-lowest-requires : tie.Need-lowest-requires
-lowest-requires c κs = search needs
-
-cube-refused-requires : tie.Need-cube-refused-requires
-cube-refused-requires c κs = search needs
-
 returns : tie.Need-returns
 returns c = c .cube-refused .ensures ∙ cubed-refused _ _ (c .before .before .lowest .ensures ∙ ap₂ lowestOf (c .before .before .before .before .refusal .ensures) (c .before .before .before .refusal2 .ensures)) (c .before .if1 .taken) _
 
@@ -35,10 +23,10 @@ pub mul-spec : {M : Type 1} → statement M
 mul-spec =
     tie.close
     (tie.spec
-    refusal-requires
-    refusal-requires-2
-    lowest-requires
-    cube-refused-requires
+    (λ c κs. search needs)
+    (λ c κs. search needs)
+    (λ c κs. search needs)
+    (λ c κs. search needs)
     returns
     mul-requires
     returns-2)

@@ -7,9 +7,6 @@ use borrow.Author.Needs.{needs}
 use Rattle.cubie.proofs.inner.apply_move.Statement.{statement}
 use Rattle.cubie.proofs.inner.apply_move.Tie as tie
 
-move-state-requires : tie.Need-move-state-requires
-move-state-requires c κs = search needs
-
 mul-requires : tie.Need-mul-requires
 mul-requires c κs = (c .before .pre .0, ap refusalOf (c .move-state .ensures) ∙ no-refusal (move-range (c .before .args .m) (c .before .pre .1)))
 
@@ -17,4 +14,4 @@ returns : tie.Need-returns
 returns c = c .mul .ensures ∙ ap (product (c .before .before .args .c)) (c .before .move-state .ensures)
 
 pub apply-move-spec : {M : Type 1} → statement M
-apply-move-spec = tie.close (tie.spec move-state-requires mul-requires returns)
+apply-move-spec = tie.close (tie.spec (λ c κs. search needs) mul-requires returns)

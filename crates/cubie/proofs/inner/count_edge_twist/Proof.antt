@@ -8,9 +8,6 @@ use borrow.Author.Needs.{needs}
 use Rattle.cubie.proofs.inner.count_edge_twist.Statement.{statement}
 use Rattle.cubie.proofs.inner.count_edge_twist.Tie as tie
 
-slice-aggregate-count-turns : tie.Need-slice-aggregate-count-turns
-slice-aggregate-count-turns c = search needs
-
 count-turns-requires : tie.Need-count-turns-requires
 count-turns-requires c κs =
     let l : length (c .before .before .args .c .eo) ≡ 12 = search needs in
@@ -22,4 +19,4 @@ returns c = c .count-turns .ensures ∙ flips (c .before .before .before .args .
 
 pub count-edge-twist-spec : {M : Type 1} → statement M
 count-edge-twist-spec =
-    tie.close (tie.spec slice-aggregate-count-turns count-turns-requires returns)
+    tie.close (tie.spec (λ c. search needs) count-turns-requires returns)

@@ -13,9 +13,6 @@ use borrow.Author.Needs.{needs}
 use Rattle.cubie.proofs.inner.is_solvable.Statement.{statement}
 use Rattle.cubie.proofs.inner.is_solvable.Tie as tie
 
-slice-aggregate-all-differ : tie.Need-slice-aggregate-all-differ
-slice-aggregate-all-differ c = search needs
-
 all-differ-requires : tie.Need-all-differ-requires
 all-differ-requires c κs =
     let l : length (c .before .before .args .c .cp) ≡ 8 = search needs in
@@ -27,9 +24,6 @@ unfolding solvable
 returns c =
     let e : noRepeat (c .before .before .before .before .args .c .cp) ≡ false = sym (c .before .all-differ .ensures) ∙ not-true _ (c .if1 .taken) in
     rw e
-
-slice-aggregate-all-differ-2 : tie.Need-slice-aggregate-all-differ-2
-slice-aggregate-all-differ-2 c = search needs
 
 all-differ-requires-2 : tie.Need-all-differ-requires-2
 all-differ-requires-2 c κs =
@@ -44,12 +38,6 @@ returns-2 c =
     let f : noRepeat (c .before .before .before .before .before .before .before .before .args .c .ep) ≡ false = sym (c .before .all-differ2 .ensures) ∙ not-true _ (c .if2 .taken) in
     rw (e, f)
 
-count-corner-perm-requires : tie.Need-count-corner-perm-requires
-count-corner-perm-requires c κs = search needs
-
-count-edge-perm-requires : tie.Need-count-edge-perm-requires
-count-edge-perm-requires c κs = search needs
-
 returns-3 : tie.Need-returns-3
 unfolding solvable
 returns-3 c =
@@ -57,9 +45,6 @@ returns-3 c =
     let f : noRepeat (c .before .before .before .before .before .before .before .before .before .before .before .args .c .ep) ≡ true = sym (c .before .before .before .before .all-differ2 .ensures) ∙ not-false _ (c .before .before .before .if2 .left) in
     let d : cornerPerm (c .before .before .before .before .before .before .before .before .before .before .before .args .c) % 2 ≡ edgePerm (c .before .before .before .before .before .before .before .before .before .before .before .args .c) % 2 → ⊥ = rw (c .before .before .count-corner-perm .ensures, c .before .count-edge-perm .ensures) at (c .if3 .taken) in
     rw (e, f, ne-eqb _ _ d)
-
-count-corner-twist-requires : tie.Need-count-corner-twist-requires
-count-corner-twist-requires c κs = search needs
 
 returns-4 : tie.Need-returns-4
 unfolding solvable
@@ -69,9 +54,6 @@ returns-4 c =
     let d : cornerPerm (c .before .before .before .before .before .before .before .before .before .before .before .before .before .args .c) % 2 ≡ edgePerm (c .before .before .before .before .before .before .before .before .before .before .before .before .before .args .c) % 2 = rw (c .before .before .before .before .count-corner-perm .ensures, c .before .before .before .count-edge-perm .ensures) at (c .before .before .if3 .left) in
     let t : cornerTwist (c .before .before .before .before .before .before .before .before .before .before .before .before .before .args .c) % 3 ≡ 0 → ⊥ = rw (c .before .count-corner-twist .ensures) at (c .if4 .taken) in
     rw (e, f, eq-eqb _ _ d, ne-eqb _ 0 t)
-
-count-edge-twist-requires : tie.Need-count-edge-twist-requires
-count-edge-twist-requires c κs = search needs
 
 returns-5 : tie.Need-returns-5
 unfolding solvable
@@ -86,16 +68,16 @@ pub is-solvable-spec : {M : Type 1} → statement M
 is-solvable-spec =
     tie.close
     (tie.spec
-    slice-aggregate-all-differ
+    (λ c. search needs)
     all-differ-requires
     returns
-    slice-aggregate-all-differ-2
+    (λ c. search needs)
     all-differ-requires-2
     returns-2
-    count-corner-perm-requires
-    count-edge-perm-requires
+    (λ c κs. search needs)
+    (λ c κs. search needs)
     returns-3
-    count-corner-twist-requires
+    (λ c κs. search needs)
     returns-4
-    count-edge-twist-requires
+    (λ c κs. search needs)
     returns-5)

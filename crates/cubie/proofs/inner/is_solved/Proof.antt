@@ -8,29 +8,11 @@ use borrow.Author.Needs.{needs}
 use Rattle.cubie.proofs.inner.is_solved.Statement.{statement}
 use Rattle.cubie.proofs.inner.is_solved.Tie as tie
 
-slice-aggregate-same-bytes : tie.Need-slice-aggregate-same-bytes
-slice-aggregate-same-bytes c = search needs
-
-slice-aggregate-same-bytes-2 : tie.Need-slice-aggregate-same-bytes-2
-slice-aggregate-same-bytes-2 c = search needs
-
-same-bytes-requires : tie.Need-same-bytes-requires
-same-bytes-requires c κs = search needs
-
 returns : tie.Need-returns
 unfolding sameCube solvedCube
 returns c =
     let e : sameList (c .before .before .before .before .before .before .args .c .cp) (solvedCube .cp) ≡ false = sym (c .before .same-bytes .ensures) ∙ not-true _ (c .if1 .taken) in
     rw e
-
-slice-aggregate-same-bytes-3 : tie.Need-slice-aggregate-same-bytes-3
-slice-aggregate-same-bytes-3 c = search needs
-
-slice-aggregate-same-bytes-4 : tie.Need-slice-aggregate-same-bytes-4
-slice-aggregate-same-bytes-4 c = search needs
-
-same-bytes-requires-2 : tie.Need-same-bytes-requires-2
-same-bytes-requires-2 c κs = search needs
 
 returns-2 : tie.Need-returns-2
 unfolding sameCube solvedCube
@@ -39,15 +21,6 @@ returns-2 c =
     let f : sameList (c .before .before .before .before .before .before .before .before .before .before .before .before .args .c .co) (solvedCube .co) ≡ false = sym (c .before .same-bytes2 .ensures) ∙ not-true _ (c .if2 .taken) in
     rw (e, f)
 
-slice-aggregate-same-bytes-5 : tie.Need-slice-aggregate-same-bytes-5
-slice-aggregate-same-bytes-5 c = search needs
-
-slice-aggregate-same-bytes-6 : tie.Need-slice-aggregate-same-bytes-6
-slice-aggregate-same-bytes-6 c = search needs
-
-same-bytes-requires-3 : tie.Need-same-bytes-requires-3
-same-bytes-requires-3 c κs = search needs
-
 returns-3 : tie.Need-returns-3
 unfolding sameCube solvedCube
 returns-3 c =
@@ -55,15 +28,6 @@ returns-3 c =
     let f : sameList (c .before .before .before .before .before .before .before .before .before .before .before .before .before .before .before .before .before .before .args .c .co) (solvedCube .co) ≡ true = sym (c .before .before .before .before .before .before .before .same-bytes2 .ensures) ∙ not-false _ (c .before .before .before .before .before .before .if2 .left) in
     let g : sameList (c .before .before .before .before .before .before .before .before .before .before .before .before .before .before .before .before .before .before .args .c .ep) (solvedCube .ep) ≡ false = sym (c .before .same-bytes3 .ensures) ∙ not-true _ (c .if3 .taken) in
     rw (e, f, g)
-
-slice-aggregate-same-bytes-7 : tie.Need-slice-aggregate-same-bytes-7
-slice-aggregate-same-bytes-7 c = search needs
-
-slice-aggregate-same-bytes-8 : tie.Need-slice-aggregate-same-bytes-8
-slice-aggregate-same-bytes-8 c = search needs
-
-same-bytes-requires-4 : tie.Need-same-bytes-requires-4
-same-bytes-requires-4 c κs = search needs
 
 returns-4 : tie.Need-returns-4
 unfolding sameCube solvedCube
@@ -77,19 +41,19 @@ pub is-solved-spec : {M : Type 1} → statement M
 is-solved-spec =
     tie.close
     (tie.spec
-    slice-aggregate-same-bytes
-    slice-aggregate-same-bytes-2
-    same-bytes-requires
+    (λ c. search needs)
+    (λ c. search needs)
+    (λ c κs. search needs)
     returns
-    slice-aggregate-same-bytes-3
-    slice-aggregate-same-bytes-4
-    same-bytes-requires-2
+    (λ c. search needs)
+    (λ c. search needs)
+    (λ c κs. search needs)
     returns-2
-    slice-aggregate-same-bytes-5
-    slice-aggregate-same-bytes-6
-    same-bytes-requires-3
+    (λ c. search needs)
+    (λ c. search needs)
+    (λ c κs. search needs)
     returns-3
-    slice-aggregate-same-bytes-7
-    slice-aggregate-same-bytes-8
-    same-bytes-requires-4
+    (λ c. search needs)
+    (λ c. search needs)
+    (λ c κs. search needs)
     returns-4)

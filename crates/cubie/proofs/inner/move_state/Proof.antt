@@ -12,9 +12,6 @@ use borrow.Author.Needs.{needs}
 use Rattle.cubie.proofs.inner.move_state.Statement.{statement}
 use Rattle.cubie.proofs.inner.move_state.Tie as tie
 
-quarter-turn-requires : tie.Need-quarter-turn-requires
-quarter-turn-requires c κs = search needs
-
 returns : tie.Need-returns
 unfolding moveOf power
 returns c = c .before .quarter-turn .ensures ∙ ap (λ (n : ℕ). power n (getD quarterTurns (c .before .before .args .m / 3) solvedCube)) (sym (c .if1 .taken))
@@ -48,4 +45,4 @@ returns-3 c =
 pub move-state-spec : {M : Type 1} → statement M
 move-state-spec =
     tie.close
-    (tie.spec quarter-turn-requires returns mul-requires returns-2 mul-requires-2 returns-3)
+    (tie.spec (λ c κs. search needs) returns mul-requires returns-2 mul-requires-2 returns-3)

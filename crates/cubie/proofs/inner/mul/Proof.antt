@@ -10,32 +10,11 @@ use borrow.Author.Needs.{needs}
 use Rattle.cubie.proofs.inner.mul.Statement.{statement}
 use Rattle.cubie.proofs.inner.mul.Tie as tie
 
-slice-aggregate-permute : tie.Need-slice-aggregate-permute
-slice-aggregate-permute c = search needs
-
-slice-aggregate-permute-2 : tie.Need-slice-aggregate-permute-2
-slice-aggregate-permute-2 c = search needs
-
-slice-aggregate-permute-3 : tie.Need-slice-aggregate-permute-3
-slice-aggregate-permute-3 c = search needs
-
 permute-requires : tie.Need-permute-requires
 permute-requires c κs =
     let a = c .before .before .before .before .before .before .before .before .before .before .before .args in
     let l : length (a .a .cp) ≡ 8 = search needs in
     (search needs, subst (λ (n : ℕ). Under n (a .b .cp)) (sym l) (ranges (a .b) (c .before .before .before .before .before .before .before .before .before .before .before .pre .1) .0))
-
-slice-aggregate-twist : tie.Need-slice-aggregate-twist
-slice-aggregate-twist c = search needs
-
-slice-aggregate-twist-2 : tie.Need-slice-aggregate-twist-2
-slice-aggregate-twist-2 c = search needs
-
-slice-aggregate-twist-3 : tie.Need-slice-aggregate-twist-3
-slice-aggregate-twist-3 c = search needs
-
-slice-aggregate-twist-4 : tie.Need-slice-aggregate-twist-4
-slice-aggregate-twist-4 c = search needs
 
 twist-requires : tie.Need-twist-requires
 twist-requires c κs =
@@ -44,15 +23,6 @@ twist-requires c κs =
     let l : length (a .a .co) ≡ 8 = search needs in
     let r = ranges (a .b) (c .before .before .before .before .before .before .before .before .before .before .before .before .before .before .before .before .before .pre .1) in
     ((search needs, search needs), (subst (λ (n : ℕ). Under n (a .b .cp)) (sym l) (r .0), (ranges (a .a) (c .before .before .before .before .before .before .before .before .before .before .before .before .before .before .before .before .before .pre .0) .1, r .1, omega arith, omega arith)))
-
-slice-aggregate-permute-4 : tie.Need-slice-aggregate-permute-4
-slice-aggregate-permute-4 c = search needs
-
-slice-aggregate-permute-5 : tie.Need-slice-aggregate-permute-5
-slice-aggregate-permute-5 c = search needs
-
-slice-aggregate-permute-6 : tie.Need-slice-aggregate-permute-6
-slice-aggregate-permute-6 c = search needs
 
 permute-requires-2 : tie.Need-permute-requires-2
 permute-requires-2 c κs =
@@ -70,9 +40,6 @@ slice-aggregate-twist-6 c = let g = c .before .before .before .before .before .b
 slice-aggregate-twist-7 : tie.Need-slice-aggregate-twist-7
 slice-aggregate-twist-7 c = let g = c .before .before .before .before .before .before .before .before .before .before .before .before .before .before .before .before .before .before .before .before .before .before .before .before .before .before .before .good in search needs
 
-slice-aggregate-twist-8 : tie.Need-slice-aggregate-twist-8
-slice-aggregate-twist-8 c = search needs
-
 twist-requires-2 : tie.Need-twist-requires-2
 twist-requires-2 c κs =
     let a = c .before .before .before .before .before .before .before .before .before .before .before .before .before .before .before .before .before .before .before .before .before .before .before .before .before .before .before .before .args in
@@ -89,22 +56,22 @@ pub mul-spec : {M : Type 1} → statement M
 mul-spec =
     tie.close
     (tie.spec
-    slice-aggregate-permute
-    slice-aggregate-permute-2
-    slice-aggregate-permute-3
+    (λ c. search needs)
+    (λ c. search needs)
+    (λ c. search needs)
     permute-requires
-    slice-aggregate-twist
-    slice-aggregate-twist-2
-    slice-aggregate-twist-3
-    slice-aggregate-twist-4
+    (λ c. search needs)
+    (λ c. search needs)
+    (λ c. search needs)
+    (λ c. search needs)
     twist-requires
-    slice-aggregate-permute-4
-    slice-aggregate-permute-5
-    slice-aggregate-permute-6
+    (λ c. search needs)
+    (λ c. search needs)
+    (λ c. search needs)
     permute-requires-2
     slice-aggregate-twist-5
     slice-aggregate-twist-6
     slice-aggregate-twist-7
-    slice-aggregate-twist-8
+    (λ c. search needs)
     twist-requires-2
     returns)

@@ -11,18 +11,12 @@ use borrow.Author.Needs.{needs}
 use Rattle.cubie.proofs.inner.put_cube.Statement.{statement}
 use Rattle.cubie.proofs.inner.put_cube.Tie as tie
 
-slice-aggregate-copy-in : tie.Need-slice-aggregate-copy-in
-slice-aggregate-copy-in c = search needs
-
 copy-in-requires : tie.Need-copy-in-requires
 copy-in-requires c κs =
     let g = c .before .before .before .before .good in
     let n : length (c .before .before .before .before .args .c .cp) ≡ 8 = search needs in
     let h : 0 + length (c .before .before .before .before .args .c .cp) ≤ length (now (c .before .before .before .before .args .out)) = omega (arith, c .before .before .before .before .pre) in
     h
-
-slice-aggregate-copy-in-2 : tie.Need-slice-aggregate-copy-in-2
-slice-aggregate-copy-in-2 c = search needs
 
 copy-in-requires-2 : tie.Need-copy-in-requires-2
 copy-in-requires-2 c κs =
@@ -32,9 +26,6 @@ copy-in-requires-2 c κs =
     let h : 8 + length (c .before .before .before .before .before .before .before .before .before .before .args .c .co) ≤ length (c .before .before .before .before .before .copy-in .last .1 .0) = omega (arith, c .before .before .before .before .before .before .before .before .before .before .pre) in
     h
 
-slice-aggregate-copy-in-3 : tie.Need-slice-aggregate-copy-in-3
-slice-aggregate-copy-in-3 c = search needs
-
 copy-in-requires-3 : tie.Need-copy-in-requires-3
 copy-in-requires-3 c κs =
     let g = c .before .before .before .before .before .before .before .before .before .before .before .before .before .before .before .before .good in
@@ -42,9 +33,6 @@ copy-in-requires-3 c κs =
     let k : length (c .before .before .before .before .before .copy-in2 .last .1 .0) ≡ length (now (c .before .before .before .before .before .before .before .before .before .before .before .before .before .before .before .before .args .out)) = c .before .before .before .before .before .copy-in2 .kept .1 .0 ∙ c .before .before .before .before .before .before .before .before .before .before .before .copy-in .kept .1 .0 in
     let h : 16 + length (c .before .before .before .before .before .before .before .before .before .before .before .before .before .before .before .before .args .c .ep) ≤ length (c .before .before .before .before .before .copy-in2 .last .1 .0) = omega (arith, c .before .before .before .before .before .before .before .before .before .before .before .before .before .before .before .before .pre) in
     h
-
-slice-aggregate-copy-in-4 : tie.Need-slice-aggregate-copy-in-4
-slice-aggregate-copy-in-4 c = search needs
 
 copy-in-requires-4 : tie.Need-copy-in-requires-4
 copy-in-requires-4 c κs =
@@ -79,13 +67,13 @@ pub put-cube-spec : {M : Type 1} → statement M
 put-cube-spec =
     tie.close
     (tie.spec
-    slice-aggregate-copy-in
+    (λ c. search needs)
     copy-in-requires
-    slice-aggregate-copy-in-2
+    (λ c. search needs)
     copy-in-requires-2
-    slice-aggregate-copy-in-3
+    (λ c. search needs)
     copy-in-requires-3
-    slice-aggregate-copy-in-4
+    (λ c. search needs)
     copy-in-requires-4
     same-length
     returns)

@@ -12,21 +12,6 @@ use borrow.Author.Needs.{needs}
 use Rattle.facelet.proofs.inner.picture_of.Statement.{statement}
 use Rattle.facelet.proofs.inner.picture_of.Tie as tie
 
-slice-aggregate-paint-pieces : tie.Need-slice-aggregate-paint-pieces
-slice-aggregate-paint-pieces c = search needs
-
-slice-aggregate-paint-pieces-2 : tie.Need-slice-aggregate-paint-pieces-2
-slice-aggregate-paint-pieces-2 c = search needs
-
-slice-aggregate-paint-pieces-3 : tie.Need-slice-aggregate-paint-pieces-3
-slice-aggregate-paint-pieces-3 c = search needs
-
-slice-aggregate-paint-pieces-4 : tie.Need-slice-aggregate-paint-pieces-4
-slice-aggregate-paint-pieces-4 c = search needs
-
-slice-aggregate-paint-pieces-5 : tie.Need-slice-aggregate-paint-pieces-5
-slice-aggregate-paint-pieces-5 c = search needs
-
 paint-pieces-requires : tie.Need-paint-pieces-requires
 unfolding cornerFacelet edgeFacelet cornerColor edgeColor solvedFace
 paint-pieces-requires c κs =
@@ -36,21 +21,6 @@ paint-pieces-requires c κs =
     let l : length (b .cp) ≡ 8 = search needs in
     let k : length (b .co) ≡ 8 = search needs in
     ((omega arith, omega arith, k ∙ sym l, subst (λ (n : ℕ). Under n (b .cp)) (sym l) (r .0), r .1), (refl, corner-places .1, refl, refl))
-
-slice-aggregate-paint-pieces-6 : tie.Need-slice-aggregate-paint-pieces-6
-slice-aggregate-paint-pieces-6 c = search needs
-
-slice-aggregate-paint-pieces-7 : tie.Need-slice-aggregate-paint-pieces-7
-slice-aggregate-paint-pieces-7 c = search needs
-
-slice-aggregate-paint-pieces-8 : tie.Need-slice-aggregate-paint-pieces-8
-slice-aggregate-paint-pieces-8 c = search needs
-
-slice-aggregate-paint-pieces-9 : tie.Need-slice-aggregate-paint-pieces-9
-slice-aggregate-paint-pieces-9 c = search needs
-
-slice-aggregate-paint-pieces-10 : tie.Need-slice-aggregate-paint-pieces-10
-slice-aggregate-paint-pieces-10 c = search needs
 
 paint-pieces-requires-2 : tie.Need-paint-pieces-requires-2
 unfolding cornerFacelet edgeFacelet cornerColor edgeColor solvedFace
@@ -70,16 +40,16 @@ pub picture-of-spec : {M : Type 1} → statement M
 picture-of-spec =
     tie.close
     (tie.spec
-    slice-aggregate-paint-pieces
-    slice-aggregate-paint-pieces-2
-    slice-aggregate-paint-pieces-3
-    slice-aggregate-paint-pieces-4
-    slice-aggregate-paint-pieces-5
+    (λ c. search needs)
+    (λ c. search needs)
+    (λ c. search needs)
+    (λ c. search needs)
+    (λ c. search needs)
     paint-pieces-requires
-    slice-aggregate-paint-pieces-6
-    slice-aggregate-paint-pieces-7
-    slice-aggregate-paint-pieces-8
-    slice-aggregate-paint-pieces-9
-    slice-aggregate-paint-pieces-10
+    (λ c. search needs)
+    (λ c. search needs)
+    (λ c. search needs)
+    (λ c. search needs)
+    (λ c. search needs)
     paint-pieces-requires-2
     returns)

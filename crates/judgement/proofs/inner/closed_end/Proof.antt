@@ -10,15 +10,6 @@ use Rattle.judgement.proofs.inner.closed_end.Tie as tie
 returns : tie.Need-returns
 returns c = (omega arith, closed-none (now (c .before .args .text)) (c .if1 .taken))
 
-sub-if2 : tie.Need-sub-if2
-sub-if2 c = search needs
-
-shared-slice-read-if2 : tie.Need-shared-slice-read-if2
-shared-slice-read-if2 c = search needs
-
-sub-result : tie.Need-sub-result
-sub-result c = search needs
-
 returns-2 : tie.Need-returns-2
 returns-2 c = (omega arith, closed-lf (now (c .before .before .before .args .text)) (c .if2 .taken))
 
@@ -27,4 +18,4 @@ returns-3 c = (omega arith, closed-other (now (c .before .before .before .args .
 
 pub closed-end-spec : {M : Type 1} → statement M
 closed-end-spec =
-    tie.close (tie.spec returns sub-if2 shared-slice-read-if2 sub-result returns-2 returns-3)
+    tie.close (tie.spec returns (λ c. search needs) (λ c. search needs) (λ c. search needs) returns-2 returns-3)

@@ -4,14 +4,8 @@ use borrow.Author.Needs.{needs}
 use Rattle.judgement.proofs.inner.print.Statement.{statement}
 use Rattle.judgement.proofs.inner.print.Tie as tie
 
-slice-aggregate-put-score : tie.Need-slice-aggregate-put-score
-slice-aggregate-put-score c = search needs
-
-put-score-requires : tie.Need-put-score-requires
-put-score-requires c κs = search needs
-
 returns : tie.Need-returns
 returns c = rw (c .before .put-score .ensures .0, c .before .put-score .ensures .1)
 
 pub print-spec : {M : Type 1} → statement M
-print-spec = tie.close (tie.spec slice-aggregate-put-score put-score-requires returns)
+print-spec = tie.close (tie.spec (λ c. search needs) (λ c κs. search needs) returns)

@@ -14,20 +14,11 @@ use borrow.Author.Needs.{needs}
 use Rattle.judgement.proofs.inner.put_score.Statement.{statement}
 use Rattle.judgement.proofs.inner.put_score.Tie as tie
 
-slice-aggregate-put-line : tie.Need-slice-aggregate-put-line
-slice-aggregate-put-line c = search needs
-
-cast-put-line : tie.Need-cast-put-line
-cast-put-line c = search needs
-
 put-line-requires : tie.Need-put-line-requires
 put-line-requires c κs =
     let k = c .before .before .before .before .before .before .args .score in
     let d = now (c .before .before .before .before .before .before .args .out) in
     omega (arith, c .before .before .before .before .before .before .pre .0, decimal-le (k .refusal) (c .before .before .before .before .before .before .pre .1 .refusal), line-length refusedWord (decimal (k .refusal)))
-
-same-length : tie.Need-same-length
-same-length c = search needs
 
 returns : tie.Need-returns
 unfolding scoreText
@@ -36,9 +27,6 @@ returns c =
     let size : c .before .before .put-line .result ≡ length (line refusedWord (c .before .before .before .before .before .before .before .before .before .args .score .refusal)) = omega (arith, c .before .before .put-line .ensures .0) in
     (rw e size, rw e (c .before .before .put-line .ensures .1))
 
-slice-aggregate-put-line-2 : tie.Need-slice-aggregate-put-line-2
-slice-aggregate-put-line-2 c = search needs
-
 put-line-requires-2 : tie.Need-put-line-requires-2
 put-line-requires-2 c κs =
     let k = c .before .before .before .before .before .args .score in
@@ -46,9 +34,6 @@ put-line-requires-2 c κs =
     let m1 = decimal-le (k .moves) (c .before .before .before .before .before .pre .1 .moves) in
     let l1 = line-length movesWord (decimal (k .moves)) in
     omega (arith, c .before .before .before .before .before .pre .0, m1, l1)
-
-slice-aggregate-put-line-3 : tie.Need-slice-aggregate-put-line-3
-slice-aggregate-put-line-3 c = search needs
 
 put-line-requires-3 : tie.Need-put-line-requires-3
 put-line-requires-3 c κs =
@@ -76,9 +61,6 @@ put-solved-requires c κs =
     let d2 = over-size (c .before .before .before .before .before .before .before .before .put-line2 .last .1 .1 .0) (c .before .before .before .put-line3 .last .1 .1 .0) (c .before .before .before .before .before .before .before .before .put-line2 .result) (line strokesWord (k .strokes)) (omega (arith, c .before .before .before .before .before .before .before .before .before .before .before .before .before .before .pre .0, m1, l1, one .0, d1, m2, l2)) (two .1) in
     let m3 = solved-le (k .solved) in
     omega (arith, c .before .before .before .before .before .before .before .before .before .before .before .before .before .before .pre .0, m1, l1, one .0, d1, m2, l2, two .0, d2, m3)
-
-same-length-2 : tie.Need-same-length-2
-same-length-2 c = search needs
 
 returns-2 : tie.Need-returns-2
 unfolding scoreText
@@ -108,15 +90,15 @@ pub put-score-spec : {M : Type 1} → statement M
 put-score-spec =
     tie.close
     (tie.spec
-    slice-aggregate-put-line
-    cast-put-line
+    (λ c. search needs)
+    (λ c. search needs)
     put-line-requires
-    same-length
+    (λ c. search needs)
     returns
-    slice-aggregate-put-line-2
+    (λ c. search needs)
     put-line-requires-2
-    slice-aggregate-put-line-3
+    (λ c. search needs)
     put-line-requires-3
     put-solved-requires
-    same-length-2
+    (λ c. search needs)
     returns-2)

@@ -7,29 +7,17 @@ use borrow.Author.Needs.{needs}
 use Rattle.judgement.proofs.inner.put_solved.Statement.{statement}
 use Rattle.judgement.proofs.inner.put_solved.Tie as tie
 
-slice-aggregate-put-bytes : tie.Need-slice-aggregate-put-bytes
-slice-aggregate-put-bytes c = search needs
-
 put-bytes-requires : tie.Need-put-bytes-requires
 unfolding solvedLine
 put-bytes-requires c κs = rw (c .before .before .if1 .taken) at (c .before .before .before .before .pre)
-
-same-length : tie.Need-same-length
-same-length c = search needs
 
 returns : tie.Need-returns
 unfolding solvedLine
 returns c = rw (c .before .before .before .before .before .if1 .taken) (c .before .before .put-bytes .ensures)
 
-slice-aggregate-put-bytes-2 : tie.Need-slice-aggregate-put-bytes-2
-slice-aggregate-put-bytes-2 c = search needs
-
 put-bytes-requires-2 : tie.Need-put-bytes-requires-2
 unfolding solvedLine
 put-bytes-requires-2 c κs = rw (c .before .before .if1 .left) at (c .before .before .before .before .pre)
-
-same-length-2 : tie.Need-same-length-2
-same-length-2 c = search needs
 
 returns-2 : tie.Need-returns-2
 unfolding solvedLine
@@ -39,11 +27,11 @@ pub put-solved-spec : {M : Type 1} → statement M
 put-solved-spec =
     tie.close
     (tie.spec
-    slice-aggregate-put-bytes
+    (λ c. search needs)
     put-bytes-requires
-    same-length
+    (λ c. search needs)
     returns
-    slice-aggregate-put-bytes-2
+    (λ c. search needs)
     put-bytes-requires-2
-    same-length-2
+    (λ c. search needs)
     returns-2)

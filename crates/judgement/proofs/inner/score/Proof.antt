@@ -20,42 +20,12 @@ use borrow.Author.Needs.{needs}
 use Rattle.judgement.proofs.inner.score.Statement.{statement}
 use Rattle.judgement.proofs.inner.score.Tie as tie
 
-refused-requires : tie.Need-refused-requires
-refused-requires c κs = search needs
-
 returns : tie.Need-returns
 unfolding scored
 returns c = c .refused .ensures ∙ rw (lt-leb (length (now (c .before .before .before .args .input))) 1024 (c .before .if1 .taken))
 
-find-requires : tie.Need-find-requires
-find-requires c κs = search needs
-
 slice-aggregate-read-strict : tie.Need-slice-aggregate-read-strict
 slice-aggregate-read-strict c = sym (length-take-le (c .before .find .result) (now (c .before .before .before .before .args .input)) (c .before .find .ensures .1))
-
-read-strict-requires : tie.Need-read-strict-requires
-read-strict-requires c κs = search needs
-
-enum-known-verdict : tie.Need-enum-known-verdict
-enum-known-verdict c = search needs
-
-refused-requires-2 : tie.Need-refused-requires-2
-refused-requires-2 c κs = search needs
-
-enum-told : tie.Need-enum-told
-enum-told c = search needs
-
-text-start-requires : tie.Need-text-start-requires
-text-start-requires c κs = search needs
-
-sub-score-text : tie.Need-sub-score-text
-sub-score-text c = search needs
-
-part-score-text-start : tie.Need-part-score-text-start
-part-score-text-start c = search needs
-
-part-score-text-end : tie.Need-part-score-text-end
-part-score-text-end c = search needs
 
 score-text-requires : tie.Need-score-text-requires
 score-text-requires c κs =
@@ -96,18 +66,18 @@ pub score-spec : {M : Type 1} → statement M
 score-spec =
     tie.close
     (tie.spec
-    refused-requires
+    (λ c κs. search needs)
     returns
-    find-requires
+    (λ c κs. search needs)
     slice-aggregate-read-strict
-    read-strict-requires
-    enum-known-verdict
-    refused-requires-2
-    enum-told
-    text-start-requires
-    sub-score-text
-    part-score-text-start
-    part-score-text-end
+    (λ c κs. search needs)
+    (λ c. search needs)
+    (λ c κs. search needs)
+    (λ c. search needs)
+    (λ c κs. search needs)
+    (λ c. search needs)
+    (λ c. search needs)
+    (λ c. search needs)
     score-text-requires
     returns-2
     returns-3)

@@ -9,15 +9,9 @@ use Rattle.judgement.proofs.inner.score_list.Tie as tie
 apply-moves-requires : tie.Need-apply-moves-requires
 apply-moves-requires c κs = (no-refusal (c .before .pre .0), c .before .pre .1)
 
-strokes-requires : tie.Need-strokes-requires
-strokes-requires c κs = search needs
-
-is-solved-requires : tie.Need-is-solved-requires
-is-solved-requires c κs = search needs
-
 returns : tie.Need-returns
 returns c = rw (c .before .strokes .ensures, c .is-solved .ensures, c .before .before .apply-moves .ensures)
 
 pub score-list-spec : {M : Type 1} → statement M
 score-list-spec =
-    tie.close (tie.spec apply-moves-requires strokes-requires is-solved-requires returns)
+    tie.close (tie.spec apply-moves-requires (λ c κs. search needs) (λ c κs. search needs) returns)

@@ -15,21 +15,6 @@ use borrow.Author.Needs.{needs}
 use Rattle.judgement.proofs.inner.score_moves.Statement.{statement}
 use Rattle.judgement.proofs.inner.score_moves.Tie as tie
 
-slice-aggregate-scramble-from-str : tie.Need-slice-aggregate-scramble-from-str
-slice-aggregate-scramble-from-str c = search needs
-
-scramble-from-str-requires : tie.Need-scramble-from-str-requires
-scramble-from-str-requires c κs = search needs
-
-enum-known-parsed : tie.Need-enum-known-parsed
-enum-known-parsed c = search needs
-
-refused-requires : tie.Need-refused-requires
-refused-requires c κs = search needs
-
-enum-known-parsed-2 : tie.Need-enum-known-parsed-2
-enum-known-parsed-2 c = search needs
-
 array-share-prefix-moves : tie.Need-array-share-prefix-moves
 array-share-prefix-moves c =
     let t = now (c .before .before .before .before .before .before .before .args .text) in
@@ -71,11 +56,11 @@ pub score-moves-spec : {M : Type 1} → statement M
 score-moves-spec =
     tie.close
     (tie.spec
-    slice-aggregate-scramble-from-str
-    scramble-from-str-requires
-    enum-known-parsed
-    refused-requires
-    enum-known-parsed-2
+    (λ c. search needs)
+    (λ c κs. search needs)
+    (λ c. search needs)
+    (λ c κs. search needs)
+    (λ c. search needs)
     array-share-prefix-moves
     slice-aggregate-score-list
     score-list-requires

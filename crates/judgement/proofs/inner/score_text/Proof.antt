@@ -7,14 +7,8 @@ use borrow.Author.Needs.{needs}
 use Rattle.judgement.proofs.inner.score_text.Statement.{statement}
 use Rattle.judgement.proofs.inner.score_text.Tie as tie
 
-closed-end-requires : tie.Need-closed-end-requires
-closed-end-requires c κs = search needs
-
 slice-aggregate-score-moves : tie.Need-slice-aggregate-score-moves
 slice-aggregate-score-moves c = sym (length-take-le (c .before .closed-end .result) (now (c .before .before .before .args .text)) (c .before .closed-end .ensures .0))
-
-score-moves-requires : tie.Need-score-moves-requires
-score-moves-requires c κs = search needs
 
 returns : tie.Need-returns
 returns c = c .score-moves .ensures ∙ ap (scoreMoves (c .before .before .before .before .args .cube)) (c .before .before .closed-end .ensures .1)
@@ -22,4 +16,4 @@ returns c = c .score-moves .ensures ∙ ap (scoreMoves (c .before .before .befor
 pub score-text-spec : {M : Type 1} → statement M
 score-text-spec =
     tie.close
-    (tie.spec closed-end-requires slice-aggregate-score-moves score-moves-requires returns)
+    (tie.spec (λ c κs. search needs) slice-aggregate-score-moves (λ c κs. search needs) returns)

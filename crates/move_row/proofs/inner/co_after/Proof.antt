@@ -10,38 +10,11 @@ use borrow.Author.Needs.{needs}
 use Rattle.move_row.proofs.inner.co_after.Statement.{statement}
 use Rattle.move_row.proofs.inner.co_after.Tie as tie
 
-mul-at : tie.Need-mul-at
-mul-at c = search needs
-
-add-twist : tie.Need-add-twist
-add-twist c = search needs
-
-sub-twist : tie.Need-sub-twist
-sub-twist c = search needs
-
-part-twist-start : tie.Need-part-twist-start
-part-twist-start c = search needs
-
 part-twist-end : tie.Need-part-twist-end
 part-twist-end c = omega (arith, all-cubes (now (c .before .before .args .cubes)) (c .before .before .pre .1))
 
-add-twist-2 : tie.Need-add-twist-2
-add-twist-2 c = search needs
-
-add-twist-3 : tie.Need-add-twist-3
-add-twist-3 c = search needs
-
-sub-twist-2 : tie.Need-sub-twist-2
-sub-twist-2 c = search needs
-
-part-twist-start-2 : tie.Need-part-twist-start-2
-part-twist-start-2 c = search needs
-
 part-twist-end-2 : tie.Need-part-twist-end-2
 part-twist-end-2 c = omega (arith, all-cubes (now (c .before .before .before .args .cubes)) (c .before .before .before .pre .1))
-
-slice-aggregate-twist : tie.Need-slice-aggregate-twist
-slice-aggregate-twist c = search needs
 
 twist-requires : tie.Need-twist-requires
 twist-requires c κs =
@@ -67,17 +40,17 @@ pub co-after-spec : {M : Type 1} → statement M
 co-after-spec =
     tie.close
     (tie.spec
-    mul-at
-    add-twist
-    sub-twist
-    part-twist-start
+    (λ c. search needs)
+    (λ c. search needs)
+    (λ c. search needs)
+    (λ c. search needs)
     part-twist-end
-    add-twist-2
-    add-twist-3
-    sub-twist-2
-    part-twist-start-2
+    (λ c. search needs)
+    (λ c. search needs)
+    (λ c. search needs)
+    (λ c. search needs)
     part-twist-end-2
-    slice-aggregate-twist
+    (λ c. search needs)
     twist-requires
     co-to-index-requires
     returns)

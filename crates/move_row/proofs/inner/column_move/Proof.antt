@@ -12,17 +12,11 @@ use Rattle.move_row.proofs.inner.column_move.Tie as tie
 phase1-move-requires : tie.Need-phase1-move-requires
 phase1-move-requires c κs = omega (arith, ap length (first-moves (c .before .args .t) (omega arith)))
 
-cast-result : tie.Need-cast-result
-cast-result c = search needs
-
 returns : tie.Need-returns
 returns c = c .phase1-move .ensures ∙ ap (λ (l : List ℕ). getD l (c .before .before .args .j) 0) (sym (first-moves (c .before .before .args .t) (omega arith)))
 
 phase2-move-requires : tie.Need-phase2-move-requires
 phase2-move-requires c κs = omega (arith, ap length (second-moves (c .before .args .t) (c .before .pre .0) (omega arith)))
-
-cast-result-2 : tie.Need-cast-result-2
-cast-result-2 c = search needs
 
 returns-2 : tie.Need-returns-2
 returns-2 c = c .phase2-move .ensures ∙ ap (λ (l : List ℕ). getD l (c .before .before .args .j) 0) (sym (second-moves (c .before .before .args .t) (c .before .before .pre .0) (omega arith)))
@@ -32,8 +26,8 @@ column-move-spec =
     tie.close
     (tie.spec
     phase1-move-requires
-    cast-result
+    (λ c. search needs)
     returns
     phase2-move-requires
-    cast-result-2
+    (λ c. search needs)
     returns-2)

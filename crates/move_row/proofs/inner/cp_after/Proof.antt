@@ -12,23 +12,8 @@ use borrow.Author.Needs.{needs}
 use Rattle.move_row.proofs.inner.cp_after.Statement.{statement}
 use Rattle.move_row.proofs.inner.cp_after.Tie as tie
 
-mul-at : tie.Need-mul-at
-mul-at c = search needs
-
-add-permute : tie.Need-add-permute
-add-permute c = search needs
-
-sub-permute : tie.Need-sub-permute
-sub-permute c = search needs
-
-part-permute-start : tie.Need-part-permute-start
-part-permute-start c = search needs
-
 part-permute-end : tie.Need-part-permute-end
 part-permute-end c = omega (arith, all-cubes (now (c .before .before .args .cubes)) (c .before .before .pre .1))
-
-slice-aggregate-permute : tie.Need-slice-aggregate-permute
-slice-aggregate-permute c = search needs
 
 permute-requires : tie.Need-permute-requires
 permute-requires c κs =
@@ -37,9 +22,6 @@ permute-requires c κs =
     let q = corners-at (now (a .cubes)) (p .1) (a .m) (p .2) in
     let r = move-range (a .m) (p .2) in
     (ap length q ∙ r .cp .size, rw (q, p .0 .places) (r .cp .small))
-
-cp-to-index-requires : tie.Need-cp-to-index-requires
-cp-to-index-requires c κs = search needs
 
 returns : tie.Need-returns
 returns c =
@@ -52,12 +34,12 @@ pub cp-after-spec : {M : Type 1} → statement M
 cp-after-spec =
     tie.close
     (tie.spec
-    mul-at
-    add-permute
-    sub-permute
-    part-permute-start
+    (λ c. search needs)
+    (λ c. search needs)
+    (λ c. search needs)
+    (λ c. search needs)
     part-permute-end
-    slice-aggregate-permute
+    (λ c. search needs)
     permute-requires
-    cp-to-index-requires
+    (λ c κs. search needs)
     returns)

@@ -10,26 +10,8 @@ use borrow.Author.Needs.{needs}
 use Rattle.move_row.proofs.inner.edges_after.Statement.{statement}
 use Rattle.move_row.proofs.inner.edges_after.Tie as tie
 
-mul-at : tie.Need-mul-at
-mul-at c = search needs
-
-add-at : tie.Need-add-at
-add-at c = search needs
-
-add-permute : tie.Need-add-permute
-add-permute c = search needs
-
-sub-permute : tie.Need-sub-permute
-sub-permute c = search needs
-
-part-permute-start : tie.Need-part-permute-start
-part-permute-start c = search needs
-
 part-permute-end : tie.Need-part-permute-end
 part-permute-end c = omega (arith, all-cubes (now (c .before .before .args .cubes)) (c .before .before .pre .1))
-
-slice-aggregate-permute : tie.Need-slice-aggregate-permute
-slice-aggregate-permute c = search needs
 
 permute-requires : tie.Need-permute-requires
 permute-requires c κs =
@@ -49,12 +31,12 @@ pub edges-after-spec : {M : Type 1} → statement M
 edges-after-spec =
     tie.close
     (tie.spec
-    mul-at
-    add-at
-    add-permute
-    sub-permute
-    part-permute-start
+    (λ c. search needs)
+    (λ c. search needs)
+    (λ c. search needs)
+    (λ c. search needs)
+    (λ c. search needs)
     part-permute-end
-    slice-aggregate-permute
+    (λ c. search needs)
     permute-requires
     returns)

@@ -11,15 +11,6 @@ use borrow.Author.Needs.{needs}
 use Rattle.move_row.proofs.inner.entry_after.Statement.{statement}
 use Rattle.move_row.proofs.inner.entry_after.Tie as tie
 
-co-after-requires : tie.Need-co-after-requires
-co-after-requires c κs = search needs
-
-eo-after-requires : tie.Need-eo-after-requires
-eo-after-requires c κs = search needs
-
-edges-after-requires : tie.Need-edges-after-requires
-edges-after-requires c κs = search needs
-
 e-combo-to-index-requires : tie.Need-e-combo-to-index-requires
 e-combo-to-index-requires c κs =
     let a = c .before .before .before .before .args in
@@ -30,12 +21,6 @@ e-combo-to-index-requires c κs =
 cp-after-requires : tie.Need-cp-after-requires
 cp-after-requires c κs = let p = c .before .before .before .pre in (subst (λ (t : ℕ). Domain (tableAt t .kind) (now (c .before .before .before .args .a))) (c .match .keys4) (p .1), p .2, p .3)
 
-edges-after-requires-2 : tie.Need-edges-after-requires-2
-edges-after-requires-2 c κs = search needs
-
-ud-ep-to-index-requires : tie.Need-ud-ep-to-index-requires
-ud-ep-to-index-requires c κs = search needs
-
 edges-after-requires-3 : tie.Need-edges-after-requires-3
 edges-after-requires-3 c κs =
     let p = c .before .before .before .pre in
@@ -43,9 +28,6 @@ edges-after-requires-3 c κs =
     let e = the-sixth (c .before .before .before .args .t) (p .0) (r .0 .0 .0 .0 .1) (r .0 .0 .0 .1) (r .0 .0 .1) (r .0 .1) (r .1) in
     let d = subst (λ (t : ℕ). Domain (tableAt t .kind) (now (c .before .before .before .args .a))) e (p .1) in
     (d .places, p .2, p .3)
-
-e-ep-to-index-requires : tie.Need-e-ep-to-index-requires
-e-ep-to-index-requires c κs = search needs
 
 returns : tie.Need-returns
 returns c = subst (λ (t : ℕ). c .co-after .result ≡ moved (tableAt t .kind) (now (c .before .before .before .before .args .a)) (c .before .before .before .before .args .m)) (sym (c .before .match .keys1)) (c .co-after .ensures)
@@ -80,15 +62,15 @@ pub entry-after-spec : {M : Type 1} → statement M
 entry-after-spec =
     tie.close
     (tie.spec
-    co-after-requires
-    eo-after-requires
-    edges-after-requires
+    (λ c κs. search needs)
+    (λ c κs. search needs)
+    (λ c κs. search needs)
     e-combo-to-index-requires
     cp-after-requires
-    edges-after-requires-2
-    ud-ep-to-index-requires
+    (λ c κs. search needs)
+    (λ c κs. search needs)
     edges-after-requires-3
-    e-ep-to-index-requires
+    (λ c κs. search needs)
     returns
     returns-2
     returns-3

@@ -13,9 +13,6 @@ use Rattle.move_row.proofs.inner.row_places.Tie as tie
 index-to-co-requires : tie.Need-index-to-co-requires
 index-to-co-requires c κs = subst (λ (t : ℕ). c .before .args .i < tableAt t .kind .count) (c .match .keys1) (c .before .pre .1)
 
-widened-requires : tie.Need-widened-requires
-widened-requires c κs = search needs
-
 index-to-eo-requires : tie.Need-index-to-eo-requires
 index-to-eo-requires c κs = subst (λ (t : ℕ). c .before .args .i < tableAt t .kind .count) (c .match .keys2) (c .before .pre .1)
 
@@ -24,9 +21,6 @@ index-to-e-combo-requires c κs = subst (λ (t : ℕ). c .before .args .i < tabl
 
 index-to-cp-requires : tie.Need-index-to-cp-requires
 index-to-cp-requires c κs = subst (λ (t : ℕ). c .before .args .i < tableAt t .kind .count) (c .match .keys4) (c .before .pre .1)
-
-widened-requires-2 : tie.Need-widened-requires-2
-widened-requires-2 c κs = search needs
 
 index-to-ud-ep-requires : tie.Need-index-to-ud-ep-requires
 index-to-ud-ep-requires c κs = subst (λ (t : ℕ). c .before .args .i < tableAt t .kind .count) (c .match .keys5) (c .before .pre .1)
@@ -77,11 +71,11 @@ row-places-spec =
     tie.close
     (tie.spec
     index-to-co-requires
-    widened-requires
+    (λ c κs. search needs)
     index-to-eo-requires
     index-to-e-combo-requires
     index-to-cp-requires
-    widened-requires-2
+    (λ c κs. search needs)
     index-to-ud-ep-requires
     index-to-e-ep-requires
     returns

@@ -10,15 +10,6 @@ use borrow.Author.Needs.{needs}
 use Rattle.move_row.proofs.inner.widened.Statement.{statement}
 use Rattle.move_row.proofs.inner.widened.Tie as tie
 
-slice-aggregate-copy-in : tie.Need-slice-aggregate-copy-in
-slice-aggregate-copy-in c = search needs
-
-slice-aggregate-copy-in-2 : tie.Need-slice-aggregate-copy-in-2
-slice-aggregate-copy-in-2 c = search needs
-
-copy-in-requires : tie.Need-copy-in-requires
-copy-in-requires c κs = search needs
-
 returns : tie.Need-returns
 returns c =
     let a = c .before .before .before .before .args .t1 in
@@ -28,4 +19,4 @@ returns c =
 
 pub widened-spec : {M : Type 1} → statement M
 widened-spec =
-    tie.close (tie.spec slice-aggregate-copy-in slice-aggregate-copy-in-2 copy-in-requires returns)
+    tie.close (tie.spec (λ c. search needs) (λ c. search needs) (λ c κs. search needs) returns)

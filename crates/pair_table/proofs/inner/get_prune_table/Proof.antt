@@ -41,16 +41,10 @@ sized : (c : tie.Else3) →
     let a = start c .args in TableSizes (now (a .t1)) (now (a .t2)) (now (a .tab)) (a .n1) (a .n2) (a .k)
 sized c = record { first = c .before .before .if1 .left; second = c .before .if2 .left; pairs = c .if3 .left }
 
-all-below-requires : tie.Need-all-below-requires
-all-below-requires c κs = search needs
-
 returns-4 : tie.Need-returns-4
 returns-4 c =
     let w = c .before in
     (sized (w .before), (λ b. no-of (w .all-below .result) (w .all-below .ensures) (not-true _ (c .if4 .taken)) (b .0)), refl)
-
-all-below-requires-2 : tie.Need-all-below-requires-2
-all-below-requires-2 c κs = search needs
 
 returns-5 : tie.Need-returns-5
 returns-5 c =
@@ -70,9 +64,6 @@ ready c =
       below2 = yes-of (w2 .all-below2 .result) (w2 .all-below2 .ensures) (not-false _ (c .if5 .left));
     }
 
-clear-requires : tie.Need-clear-requires
-clear-requires c κs = search needs
-
 slice-write-tab : tie.Need-slice-write-tab
 slice-write-tab c =
     let w = c .before .before in
@@ -89,9 +80,6 @@ flood-requires c κs =
       ready-kept _ _ _ _ _ _ r _ (simp length-set (w .clear .kept .0)),
       layer-first (next (now (a .t1)) (now (a .t2)) (a .n2) (a .k)) (a .k) (a .n1 * a .n2) (length (now (a .tab))) tab (w .clear .ensures) pos,
     )
-
-some-unreached-requires : tie.Need-some-unreached-requires
-some-unreached-requires c κs = search needs
 
 -- the table is as long as it was
 kept : (w : tie.After-flood) → length (w .flood .last .1 .1 .0) ≡ length (now (start (w .before .before .before .before .before .before .before .before .before .before) .args .tab))
@@ -125,14 +113,14 @@ get-prune-table-spec =
     returns-2
     mul-if3
     returns-3
-    all-below-requires
+    (λ c κs. search needs)
     returns-4
-    all-below-requires-2
+    (λ c κs. search needs)
     returns-5
-    clear-requires
+    (λ c κs. search needs)
     slice-write-tab
     flood-requires
-    some-unreached-requires
+    (λ c κs. search needs)
     same-length
     returns-6
     same-length-2

@@ -15,32 +15,8 @@ at1 s = s .args .i * s .args .k + s .args .m
 abbrev at2 : tie.Start → ℕ
 at2 s = s .args .j * s .args .k + s .args .m
 
-mul-a : tie.Need-mul-a
-mul-a c = search needs
-
-add-a : tie.Need-add-a
-add-a c = search needs
-
-mul-a-2 : tie.Need-mul-a-2
-mul-a-2 c = search needs
-
-shared-slice-read-a : tie.Need-shared-slice-read-a
-shared-slice-read-a c = search needs
-
 cast-a : tie.Need-cast-a
 cast-a c = omega (arith, c .shared-slice-known .given (at1 (c .before)))
-
-mul-b : tie.Need-mul-b
-mul-b c = search needs
-
-add-b : tie.Need-add-b
-add-b c = search needs
-
-mul-b-2 : tie.Need-mul-b-2
-mul-b-2 c = search needs
-
-shared-slice-read-b : tie.Need-shared-slice-read-b
-shared-slice-read-b c = search needs
 
 cast-b : tie.Need-cast-b
 cast-b c = omega (arith, c .shared-slice-known2 .given (at2 (c .before .before)))
@@ -64,4 +40,4 @@ returns c = search needs
 pub neighbour-spec : {M : Type 1} → statement M
 neighbour-spec =
     tie.close
-    (tie.spec mul-a add-a mul-a-2 shared-slice-read-a cast-a mul-b add-b mul-b-2 shared-slice-read-b cast-b mul-result add-result returns)
+    (tie.spec (λ c. search needs) (λ c. search needs) (λ c. search needs) (λ c. search needs) cast-a (λ c. search needs) (λ c. search needs) (λ c. search needs) (λ c. search needs) cast-b mul-result add-result returns)

@@ -14,11 +14,8 @@ returns c = sym (unpaid _ _ _ _ _ (c .if1 .taken))
 returns-2 : tie.Need-returns-2
 returns-2 c = sym (no-depth _ _ _ _ _ (c .if2 .taken))
 
-prune-requires : tie.Need-prune-requires
-prune-requires c κs = search needs
-
 returns-3 : tie.Need-returns-3
 returns-3 c = c .prune .ensures ∙ sym (paid _ _ _ _ _ (c .before .before .if1 .left) (c .before .if2 .left))
 
 pub cut-at-once-spec : {M : Type 1} → statement M
-cut-at-once-spec = tie.close (tie.spec returns returns-2 prune-requires returns-3)
+cut-at-once-spec = tie.close (tie.spec returns returns-2 (λ c κs. search needs) returns-3)

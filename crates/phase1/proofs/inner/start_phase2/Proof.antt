@@ -9,17 +9,11 @@ use borrow.Author.Needs.{needs}
 use Rattle.phase1.proofs.inner.start_phase2.Statement.{statement}
 use Rattle.phase1.proofs.inner.start_phase2.Tie as tie
 
-cube-of-requires : tie.Need-cube-of-requires
-cube-of-requires c κs = search needs
-
 slice-aggregate-apply-moves : tie.Need-slice-aggregate-apply-moves
 slice-aggregate-apply-moves c = sym (held-length (c .before .before .before .before .pre .1) (c .before .before .before .before .pre .0 .0))
 
 apply-moves-requires : tie.Need-apply-moves-requires
 apply-moves-requires c κs = (subst (λ (q : CubieCube). refusalOf q ≡ 0) (sym (c .before .cube-of .ensures)) (c .before .before .before .before .pre .0 .1), c .before .before .before .before .pre .1 .moves)
-
-phase2-state-requires : tie.Need-phase2-state-requires
-phase2-state-requires c κs = search needs
 
 returns : tie.Need-returns
 returns c =
@@ -31,8 +25,8 @@ pub start-phase2-spec : {M : Type 1} → statement M
 start-phase2-spec =
     tie.close
     (tie.spec
-    cube-of-requires
+    (λ c κs. search needs)
     slice-aggregate-apply-moves
     apply-moves-requires
-    phase2-state-requires
+    (λ c κs. search needs)
     returns)

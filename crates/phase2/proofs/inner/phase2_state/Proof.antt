@@ -7,15 +7,6 @@ use borrow.Author.Needs.{needs}
 use Rattle.phase2.proofs.inner.phase2_state.Statement.{statement}
 use Rattle.phase2.proofs.inner.phase2_state.Tie as tie
 
-cp-to-index-requires : tie.Need-cp-to-index-requires
-cp-to-index-requires c κs = search needs
-
-ud-ep-to-index-requires : tie.Need-ud-ep-to-index-requires
-ud-ep-to-index-requires c κs = search needs
-
-e-ep-to-index-requires : tie.Need-e-ep-to-index-requires
-e-ep-to-index-requires c κs = search needs
-
 returns : tie.Need-returns
 returns c =
     let cube = c .before .before .before .before .before .args .cube in
@@ -38,4 +29,4 @@ returns c =
 pub phase2-state-spec : {M : Type 1} → statement M
 phase2-state-spec =
     tie.close
-    (tie.spec cp-to-index-requires ud-ep-to-index-requires e-ep-to-index-requires returns)
+    (tie.spec (λ c κs. search needs) (λ c κs. search needs) (λ c κs. search needs) returns)

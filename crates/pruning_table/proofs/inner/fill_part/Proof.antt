@@ -32,12 +32,6 @@ spot c =
       at = c .prune-begins .ensures;
     }
 
-first-of-requires : tie.Need-first-of-requires
-first-of-requires c κs = search needs
-
-second-of-requires : tie.Need-second-of-requires
-second-of-requires c κs = search needs
-
 columns-of-requires : tie.Need-columns-of-requires
 columns-of-requires c κs = omega (arith, c .before .first-of .ensures, firsts (c .before .before .before .before .args .t) (c .before .before .before .before .pre .0) (c .before .before .before .before .pre .1))
 
@@ -53,9 +47,6 @@ move-begins-requires c κs = omega (arith, c .before .before .before .before .fi
 move-begins-requires-2 : tie.Need-move-begins-requires-2
 move-begins-requires-2 c κs = omega (arith, c .before .before .before .before .second-of .ensures, seconds (c .before .before .before .before .before .before .before .before .args .t) (c .before .before .before .before .before .before .before .before .pre .0) (c .before .before .before .before .before .before .before .before .pre .1))
 
-prune-begins-requires : tie.Need-prune-begins-requires
-prune-begins-requires c κs = search needs
-
 mul-get-prune-table : tie.Need-mul-get-prune-table
 mul-get-prune-table c = omega (arith, spot-end1 (spot c))
 
@@ -64,12 +55,6 @@ add-get-prune-table c = omega (arith, spot-end1 (spot c))
 
 mul-get-prune-table-2 : tie.Need-mul-get-prune-table-2
 mul-get-prune-table-2 c = omega (arith, spot-end1 (spot c))
-
-sub-get-prune-table : tie.Need-sub-get-prune-table
-sub-get-prune-table c = search needs
-
-part-get-prune-table-start : tie.Need-part-get-prune-table-start
-part-get-prune-table-start c = search needs
 
 part-get-prune-table-end : tie.Need-part-get-prune-table-end
 part-get-prune-table-end c = omega (arith, spot-end1 (spot c), start c .pre .2 .six)
@@ -83,12 +68,6 @@ add-get-prune-table-2 c = omega (arith, spot-end2 (spot (c .before)))
 mul-get-prune-table-4 : tie.Need-mul-get-prune-table-4
 mul-get-prune-table-4 c = omega (arith, spot-end2 (spot (c .before)))
 
-sub-get-prune-table-2 : tie.Need-sub-get-prune-table-2
-sub-get-prune-table-2 c = search needs
-
-part-get-prune-table-start-2 : tie.Need-part-get-prune-table-start-2
-part-get-prune-table-start-2 c = search needs
-
 part-get-prune-table-end-2 : tie.Need-part-get-prune-table-end-2
 part-get-prune-table-end-2 c = omega (arith, spot-end2 (spot (c .before)), start (c .before) .pre .2 .six)
 
@@ -97,12 +76,6 @@ mul-get-prune-table-5 c = omega (arith, spot-end (spot (c .before .before)))
 
 add-get-prune-table-3 : tie.Need-add-get-prune-table-3
 add-get-prune-table-3 c = omega (arith, spot-end (spot (c .before .before)))
-
-sub-get-prune-table-3 : tie.Need-sub-get-prune-table-3
-sub-get-prune-table-3 c = search needs
-
-part-get-prune-table-start-3 : tie.Need-part-get-prune-table-start-3
-part-get-prune-table-start-3 c = search needs
 
 part-get-prune-table-end-3 : tie.Need-part-get-prune-table-end-3
 part-get-prune-table-end-3 c = omega (arith, spot-end (spot (c .before .before)), start (c .before .before) .pre .2 .four)
@@ -113,21 +86,6 @@ get-prune-table-requires c κs =
     let s = start b in
     spot-counts (spot b) (now (s .args .moves)) (now (s .args .prunes)) (s .pre .2)
 
-enum-told : tie.Need-enum-told
-enum-told c = search needs
-
-enum-told-2 : tie.Need-enum-told-2
-enum-told-2 c = search needs
-
-enum-told-3 : tie.Need-enum-told-3
-enum-told-3 c = search needs
-
-enum-told-4 : tie.Need-enum-told-4
-enum-told-4 c = search needs
-
-same-length : tie.Need-same-length
-same-length c = search needs
-
 returns : tie.Need-returns
 returns c =
     let w = c .before .before .before .before in
@@ -135,9 +93,6 @@ returns c =
     let s = start b in
     done-fills (spot b) (now (s .args .moves)) (now (s .args .prunes)) (s .pre .2) (s .pre .3) (w .get-prune-table .last .1 .1 .0) (w .get-prune-table .kept .1 .1 .0)
     (rw (c .enum-told .given .1) at (w .get-prune-table .ensures))
-
-same-length-2 : tie.Need-same-length-2
-same-length-2 c = search needs
 
 returns-2 : tie.Need-returns-2
 returns-2 c =
@@ -147,18 +102,12 @@ returns-2 c =
     unreached-fills (spot b) (now (s .args .moves)) (now (s .args .prunes)) (s .pre .2) (s .pre .3) (w .get-prune-table .last .1 .1 .0) (w .get-prune-table .kept .1 .1 .0)
     (rw (c .enum-told2 .given .1) at (w .get-prune-table .ensures))
 
-same-length-3 : tie.Need-same-length-3
-same-length-3 c = search needs
-
 returns-3 : tie.Need-returns-3
 returns-3 c =
     let w = c .before .before .before .before in
     let b = w .before .before .before .before in
     let s = start b in
     absurd (no-length (spot b) (now (s .args .moves)) (now (s .args .prunes)) (s .pre .2) (s .pre .3) (rw (c .enum-told3 .given .1) at (w .get-prune-table .ensures)))
-
-same-length-4 : tie.Need-same-length-4
-same-length-4 c = search needs
 
 returns-4 : tie.Need-returns-4
 returns-4 c =
@@ -171,41 +120,41 @@ pub fill-part-spec : {M : Type 1} → statement M
 fill-part-spec =
     tie.close
     (tie.spec
-    first-of-requires
-    second-of-requires
+    (λ c κs. search needs)
+    (λ c κs. search needs)
     columns-of-requires
     rows-of-requires
     rows-of-requires-2
     move-begins-requires
     move-begins-requires-2
-    prune-begins-requires
+    (λ c κs. search needs)
     mul-get-prune-table
     add-get-prune-table
     mul-get-prune-table-2
-    sub-get-prune-table
-    part-get-prune-table-start
+    (λ c. search needs)
+    (λ c. search needs)
     part-get-prune-table-end
     mul-get-prune-table-3
     add-get-prune-table-2
     mul-get-prune-table-4
-    sub-get-prune-table-2
-    part-get-prune-table-start-2
+    (λ c. search needs)
+    (λ c. search needs)
     part-get-prune-table-end-2
     mul-get-prune-table-5
     add-get-prune-table-3
-    sub-get-prune-table-3
-    part-get-prune-table-start-3
+    (λ c. search needs)
+    (λ c. search needs)
     part-get-prune-table-end-3
     get-prune-table-requires
-    enum-told
-    enum-told-2
-    enum-told-3
-    enum-told-4
-    same-length
+    (λ c. search needs)
+    (λ c. search needs)
+    (λ c. search needs)
+    (λ c. search needs)
+    (λ c. search needs)
     returns
-    same-length-2
+    (λ c. search needs)
     returns-2
-    same-length-3
+    (λ c. search needs)
     returns-3
-    same-length-4
+    (λ c. search needs)
     returns-4)

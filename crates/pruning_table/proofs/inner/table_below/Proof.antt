@@ -27,15 +27,6 @@ ends c =
     let s = c .before .before .before .before in
     omega (arith, size c, move-within (s .args .t) (s .pre .0), c .before .before .move-begins .ensures)
 
-move-begins-requires : tie.Need-move-begins-requires
-move-begins-requires c κs = search needs
-
-rows-of-requires : tie.Need-rows-of-requires
-rows-of-requires c κs = search needs
-
-columns-of-requires : tie.Need-columns-of-requires
-columns-of-requires c κs = search needs
-
 mul-len : tie.Need-mul-len
 mul-len c = omega (arith, ends c)
 
@@ -45,17 +36,8 @@ add-all-below c = omega (arith, ends c)
 mul-all-below : tie.Need-mul-all-below
 mul-all-below c = omega (arith, ends c)
 
-sub-all-below : tie.Need-sub-all-below
-sub-all-below c = search needs
-
-part-all-below-start : tie.Need-part-all-below-start
-part-all-below-start c = search needs
-
 part-all-below-end : tie.Need-part-all-below-end
 part-all-below-end c = omega (arith, ends c, c .before .before .before .before .pre .1)
-
-all-below-requires : tie.Need-all-below-requires
-all-below-requires c κs = search needs
 
 returns : tie.Need-returns
 returns c =
@@ -68,14 +50,14 @@ pub table-below-spec : {M : Type 1} → statement M
 table-below-spec =
     tie.close
     (tie.spec
-    move-begins-requires
-    rows-of-requires
-    columns-of-requires
+    (λ c κs. search needs)
+    (λ c κs. search needs)
+    (λ c κs. search needs)
     mul-len
     add-all-below
     mul-all-below
-    sub-all-below
-    part-all-below-start
+    (λ c. search needs)
+    (λ c. search needs)
     part-all-below-end
-    all-below-requires
+    (λ c κs. search needs)
     returns)

@@ -16,12 +16,6 @@ use Rattle.scramble.proofs.inner.number_of.Tie as tie
 returns : tie.Need-returns
 returns c = no-bytes (now (c .before .before .args .word)) (c .if1 .taken)
 
-shared-slice-read-layer-of : tie.Need-shared-slice-read-layer-of
-shared-slice-read-layer-of c = search needs
-
-layer-of-requires : tie.Need-layer-of-requires
-layer-of-requires c κs = search needs
-
 returns-2 : tie.Need-returns-2
 returns-2 c =
     let w = now (c .before .before .before .before .before .args .word) in
@@ -43,9 +37,6 @@ returns-4 : tie.Need-returns-4
 returns-4 c =
     let w = now (c .before .before .before .before .before .before .before .args .word) in
     no-word w (λ s. omega (arith, s .short))
-
-shared-slice-read-match : tie.Need-shared-slice-read-match
-shared-slice-read-match c = search needs
 
 mul-result-2 : tie.Need-mul-result-2
 mul-result-2 c = omega (arith, c .before .before .before .before .before .layer-of .ensures, place-le (eqb (getD (now (c .before .before .before .before .before .before .before .before .before .args .word)) 0 0)) letters)
@@ -89,13 +80,13 @@ number-of-spec =
     tie.close
     (tie.spec
     returns
-    shared-slice-read-layer-of
-    layer-of-requires
+    (λ c. search needs)
+    (λ c κs. search needs)
     returns-2
     mul-result
     returns-3
     returns-4
-    shared-slice-read-match
+    (λ c. search needs)
     mul-result-2
     add-result
     mul-result-3

@@ -30,15 +30,6 @@ put-word-requires c κs =
     let size = text-first-size ms some in
     (under-at 18 ms 0 (c .before .before .before .before .before .pre .0) some, omega (arith, c .before .before .before .before .before .pre .1, size))
 
-sub-put-spaced : tie.Need-sub-put-spaced
-sub-put-spaced c = search needs
-
-part-put-spaced-start : tie.Need-part-put-spaced-start
-part-put-spaced-start c = search needs
-
-part-put-spaced-end : tie.Need-part-put-spaced-end
-part-put-spaced-end c = search needs
-
 put-spaced-requires : tie.Need-put-spaced-requires
 put-spaced-requires c κs =
     let ms = now (c .before .before .before .before .before .before .before .before .before .before .args .moves) in
@@ -47,9 +38,6 @@ put-spaced-requires c κs =
     let rest : take (length ms - 1) (drop 1 ms) ≡ drop 1 ms = take-all (length ms - 1) (drop 1 ms) (omega (arith, length-drop 1 ms)) in
     let words : length (spaced (map wordOf (take (length ms - 1) (drop 1 ms)))) ≡ length (textFrom ms 1) = ap (λ (l : List ℕ). length (spaced (map wordOf l))) rest in
     (rw rest (under-drop 18 1 ms (c .before .before .before .before .before .before .before .before .before .before .pre .0)), omega (arith, c .before .before .before .before .before .before .before .before .before .before .pre .1, size, words, c .before .before .before .before .put-word .ensures .0, c .before .before .before .before .put-word .kept .1 .0))
-
-same-length : tie.Need-same-length
-same-length c = search needs
 
 returns-2 : tie.Need-returns-2
 returns-2 c =
@@ -78,9 +66,9 @@ put-text-spec =
     returns
     shared-slice-read-put-word
     put-word-requires
-    sub-put-spaced
-    part-put-spaced-start
-    part-put-spaced-end
+    (λ c. search needs)
+    (λ c. search needs)
+    (λ c. search needs)
     put-spaced-requires
-    same-length
+    (λ c. search needs)
     returns-2)

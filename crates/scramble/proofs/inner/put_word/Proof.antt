@@ -13,21 +13,9 @@ use borrow.Author.Needs.{needs}
 use Rattle.scramble.proofs.inner.put_word.Statement.{statement}
 use Rattle.scramble.proofs.inner.put_word.Tie as tie
 
-cast-text : tie.Need-cast-text
-cast-text c = search needs
-
-array-read-text : tie.Need-array-read-text
-array-read-text c = search needs
-
 slice-write-text : tie.Need-slice-write-text
 unfolding wordOf
 slice-write-text c = omega (arith, c .pre .1)
-
-add-result : tie.Need-add-result
-add-result c = search needs
-
-same-length : tie.Need-same-length
-same-length c = search needs
 
 returns : tie.Need-returns
 returns c =
@@ -39,29 +27,11 @@ returns c =
     let room : a .at < length d = omega (arith, c .before .pre .1) in
     (ap (λ (k : ℕ). a .at + k) (sym n), sym (over-nothing (set d (a .at) x) (a .at + 1)) ∙ over-cons d (a .at) x [] room ∙ sym (ap (over d (a .at)) w))
 
-sub-text : tie.Need-sub-text
-sub-text c = search needs
-
-cast-text-2 : tie.Need-cast-text-2
-cast-text-2 c = search needs
-
-array-read-text-2 : tie.Need-array-read-text-2
-array-read-text-2 c = search needs
-
-add-text : tie.Need-add-text
-add-text c = search needs
-
 slice-write-text-2 : tie.Need-slice-write-text-2
 slice-write-text-2 c =
     let a = c .before .args in
     let n = ap length (word-two (a .m) (c .if1 .left)) in
     simp length-set (omega (arith, c .before .pre .1))
-
-add-result-2 : tie.Need-add-result-2
-add-result-2 c = search needs
-
-same-length-2 : tie.Need-same-length-2
-same-length-2 c = search needs
 
 returns-2 : tie.Need-returns-2
 returns-2 c =
@@ -84,17 +54,17 @@ pub put-word-spec : {M : Type 1} → statement M
 put-word-spec =
     tie.close
     (tie.spec
-    cast-text
-    array-read-text
+    (λ c. search needs)
+    (λ c. search needs)
     slice-write-text
-    add-result
-    same-length
+    (λ c. search needs)
+    (λ c. search needs)
     returns
-    sub-text
-    cast-text-2
-    array-read-text-2
-    add-text
+    (λ c. search needs)
+    (λ c. search needs)
+    (λ c. search needs)
+    (λ c. search needs)
     slice-write-text-2
-    add-result-2
-    same-length-2
+    (λ c. search needs)
+    (λ c. search needs)
     returns-2)

@@ -17,15 +17,6 @@ use Rattle.move_table.proofs.inner.first_bad.Reads as first-bad-reads
 use Rattle.move_row.proofs.inner.rows_of.Reads as rows-of-reads
 use Rattle.pruning_table.proofs.inner.move_begins.Reads as move-begins-reads
 
-move-begins-requires : tie.Need-move-begins-requires
-move-begins-requires c κs = search needs
-
-rows-of-requires : tie.Need-rows-of-requires
-rows-of-requires c κs = search needs
-
-columns-of-requires : tie.Need-columns-of-requires
-columns-of-requires c κs = search needs
-
 mul-len : tie.Need-mul-len
 mul-len c = omega (arith, len-is (c .before .before .before .before .args .t) (c .before .before .before .before .pre .0) (c .before .rows-of .result) (c .columns-of .result) (c .before .rows-of .ensures) (c .columns-of .ensures), move-within (c .before .before .before .before .args .t) (c .before .before .before .before .pre .0))
 
@@ -34,12 +25,6 @@ add-first-bad c = omega (arith, len-is (c .before .before .before .before .args 
 
 mul-first-bad : tie.Need-mul-first-bad
 mul-first-bad c = omega (arith, move-within (c .before .before .before .before .args .t) (c .before .before .before .before .pre .0), c .before .before .move-begins .ensures)
-
-sub-first-bad : tie.Need-sub-first-bad
-sub-first-bad c = search needs
-
-part-first-bad-start : tie.Need-part-first-bad-start
-part-first-bad-start c = search needs
 
 part-first-bad-end : tie.Need-part-first-bad-end
 part-first-bad-end c = omega (arith, len-is (c .before .before .before .before .args .t) (c .before .before .before .before .pre .0) (c .before .rows-of .result) (c .columns-of .result) (c .before .rows-of .ensures) (c .columns-of .ensures), move-within (c .before .before .before .before .args .t) (c .before .before .before .before .pre .0), c .before .before .move-begins .ensures, c .before .before .before .before .pre .1)
@@ -69,14 +54,14 @@ pub check-move-table-spec : {M : Type 1} → statement M
 check-move-table-spec =
     tie.close
     (tie.spec
-    move-begins-requires
-    rows-of-requires
-    columns-of-requires
+    (λ c κs. search needs)
+    (λ c κs. search needs)
+    (λ c κs. search needs)
     mul-len
     add-first-bad
     mul-first-bad
-    sub-first-bad
-    part-first-bad-start
+    (λ c. search needs)
+    (λ c. search needs)
     part-first-bad-end
     first-bad-requires
     returns

@@ -16,12 +16,6 @@ use Rattle.pruning_table.proofs.inner.move_begins.Reads as move-begins-reads
 use Rattle.pruning_table.proofs.inner.prune_begins.Reads as prune-begins-reads
 use Rattle.pruning_table.proofs.inner.second_of.Reads as second-of-reads
 
-first-of-requires : tie.Need-first-of-requires
-first-of-requires c κs = search needs
-
-second-of-requires : tie.Need-second-of-requires
-second-of-requires c κs = search needs
-
 columns-of-requires : tie.Need-columns-of-requires
 columns-of-requires c κs = omega (arith, c .before .first-of .ensures, firsts (c .before .before .before .before .args .t) (c .before .before .before .before .pre .0) (c .before .before .before .before .pre .1))
 
@@ -36,9 +30,6 @@ move-begins-requires c κs = omega (arith, c .before .before .before .before .fi
 
 move-begins-requires-2 : tie.Need-move-begins-requires-2
 move-begins-requires-2 c κs = omega (arith, c .before .before .before .before .second-of .ensures, seconds (c .before .before .before .before .before .before .before .before .args .t) (c .before .before .before .before .before .before .before .before .pre .0) (c .before .before .before .before .before .before .before .before .pre .1))
-
-prune-begins-requires : tie.Need-prune-begins-requires
-prune-begins-requires c κs = search needs
 
 mul-first-bad : tie.Need-mul-first-bad
 mul-first-bad c =
@@ -57,12 +48,6 @@ mul-first-bad-2 c =
     let s : Spot (c .before .before .before .before .before .before .before .before .before .before .args .t) (c .before .before .before .before .before .before .before .first-of .result) (c .before .before .before .before .before .before .second-of .result) (c .before .before .before .before .before .columns-of .result) (c .before .before .before .before .rows-of .result) (c .before .before .before .rows-of2 .result) (c .before .before .move-begins .result) (c .before .move-begins2 .result) (c .prune-begins .result) =
     record { below = c .before .before .before .before .before .before .before .before .before .before .pre .0; above = c .before .before .before .before .before .before .before .before .before .before .pre .1; first = c .before .before .before .before .before .before .before .first-of .ensures; second = c .before .before .before .before .before .before .second-of .ensures; columns-are = c .before .before .before .before .before .columns-of .ensures; rows1 = c .before .before .before .before .rows-of .ensures; rows2 = c .before .before .before .rows-of2 .ensures; at1 = c .before .before .move-begins .ensures; at2 = c .before .move-begins2 .ensures; at = c .prune-begins .ensures } in
     omega (arith, spot-end1 s)
-
-sub-first-bad : tie.Need-sub-first-bad
-sub-first-bad c = search needs
-
-part-first-bad-start : tie.Need-part-first-bad-start
-part-first-bad-start c = search needs
 
 part-first-bad-end : tie.Need-part-first-bad-end
 part-first-bad-end c =
@@ -88,12 +73,6 @@ mul-first-bad-4 c =
     record { below = c .before .before .before .before .before .before .before .before .before .before .before .pre .0; above = c .before .before .before .before .before .before .before .before .before .before .before .pre .1; first = c .before .before .before .before .before .before .before .before .first-of .ensures; second = c .before .before .before .before .before .before .before .second-of .ensures; columns-are = c .before .before .before .before .before .before .columns-of .ensures; rows1 = c .before .before .before .before .before .rows-of .ensures; rows2 = c .before .before .before .before .rows-of2 .ensures; at1 = c .before .before .before .move-begins .ensures; at2 = c .before .before .move-begins2 .ensures; at = c .before .prune-begins .ensures } in
     omega (arith, spot-end2 s)
 
-sub-first-bad-2 : tie.Need-sub-first-bad-2
-sub-first-bad-2 c = search needs
-
-part-first-bad-start-2 : tie.Need-part-first-bad-start-2
-part-first-bad-start-2 c = search needs
-
 part-first-bad-end-2 : tie.Need-part-first-bad-end-2
 part-first-bad-end-2 c =
     let s : Spot (c .before .before .before .before .before .before .before .before .before .before .before .args .t) (c .before .before .before .before .before .before .before .before .first-of .result) (c .before .before .before .before .before .before .before .second-of .result) (c .before .before .before .before .before .before .columns-of .result) (c .before .before .before .before .before .rows-of .result) (c .before .before .before .before .rows-of2 .result) (c .before .before .before .move-begins .result) (c .before .before .move-begins2 .result) (c .before .prune-begins .result) =
@@ -111,12 +90,6 @@ add-first-bad-3 c =
     let s : Spot (c .before .before .before .before .before .before .before .before .before .before .before .before .args .t) (c .before .before .before .before .before .before .before .before .before .first-of .result) (c .before .before .before .before .before .before .before .before .second-of .result) (c .before .before .before .before .before .before .before .columns-of .result) (c .before .before .before .before .before .before .rows-of .result) (c .before .before .before .before .before .rows-of2 .result) (c .before .before .before .before .move-begins .result) (c .before .before .before .move-begins2 .result) (c .before .before .prune-begins .result) =
     record { below = c .before .before .before .before .before .before .before .before .before .before .before .before .pre .0; above = c .before .before .before .before .before .before .before .before .before .before .before .before .pre .1; first = c .before .before .before .before .before .before .before .before .before .first-of .ensures; second = c .before .before .before .before .before .before .before .before .second-of .ensures; columns-are = c .before .before .before .before .before .before .before .columns-of .ensures; rows1 = c .before .before .before .before .before .before .rows-of .ensures; rows2 = c .before .before .before .before .before .rows-of2 .ensures; at1 = c .before .before .before .before .move-begins .ensures; at2 = c .before .before .before .move-begins2 .ensures; at = c .before .before .prune-begins .ensures } in
     omega (arith, spot-end s)
-
-sub-first-bad-3 : tie.Need-sub-first-bad-3
-sub-first-bad-3 c = search needs
-
-part-first-bad-start-3 : tie.Need-part-first-bad-start-3
-part-first-bad-start-3 c = search needs
 
 part-first-bad-end-3 : tie.Need-part-first-bad-end-3
 part-first-bad-end-3 c =
@@ -140,30 +113,30 @@ pub check-prune-table-spec : {M : Type 1} → statement M
 check-prune-table-spec =
     tie.close
     (tie.spec
-    first-of-requires
-    second-of-requires
+    (λ c κs. search needs)
+    (λ c κs. search needs)
     columns-of-requires
     rows-of-requires
     rows-of-requires-2
     move-begins-requires
     move-begins-requires-2
-    prune-begins-requires
+    (λ c κs. search needs)
     mul-first-bad
     add-first-bad
     mul-first-bad-2
-    sub-first-bad
-    part-first-bad-start
+    (λ c. search needs)
+    (λ c. search needs)
     part-first-bad-end
     mul-first-bad-3
     add-first-bad-2
     mul-first-bad-4
-    sub-first-bad-2
-    part-first-bad-start-2
+    (λ c. search needs)
+    (λ c. search needs)
     part-first-bad-end-2
     mul-first-bad-5
     add-first-bad-3
-    sub-first-bad-3
-    part-first-bad-start-3
+    (λ c. search needs)
+    (λ c. search needs)
     part-first-bad-end-3
     first-bad-requires
     returns)

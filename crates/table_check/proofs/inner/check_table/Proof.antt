@@ -8,18 +8,12 @@ use Rattle.table_check.proofs.inner.check_table.Tie as tie
 use Rattle.table_check.proofs.inner.check_move_table.Reads as check-move-table-reads
 use Rattle.table_check.proofs.inner.check_prune_table.Reads as check-prune-table-reads
 
-check-move-table-requires : tie.Need-check-move-table-requires
-check-move-table-requires c κs = search needs
-
 returns : tie.Need-returns
 returns c = move-rule (now (c .before .before .before .before .args .moves)) (now (c .before .before .before .before .args .prunes)) (c .before .before .before .before .args .t) (c .before .if1 .taken) (c .check-move-table .result) (c .check-move-table .ensures)
-
-check-prune-table-requires : tie.Need-check-prune-table-requires
-check-prune-table-requires c κs = search needs
 
 returns-2 : tie.Need-returns-2
 returns-2 c = prune-rule (now (c .before .before .before .before .args .moves)) (now (c .before .before .before .before .args .prunes)) (c .before .before .before .before .args .t) (c .before .if1 .left) (c .check-prune-table .result) (c .check-prune-table .ensures)
 
 pub check-table-spec : {M : Type 1} → statement M
 check-table-spec =
-    tie.close (tie.spec check-move-table-requires returns check-prune-table-requires returns-2)
+    tie.close (tie.spec (λ c κs. search needs) returns (λ c κs. search needs) returns-2)

@@ -9,20 +9,8 @@ use Rattle.table_io.proofs.inner.read_part.Tie as tie
 returns : tie.Need-returns
 returns c = search needs
 
-mul-len : tie.Need-mul-len
-mul-len c = search needs
-
-large-buffer-requires : tie.Need-large-buffer-requires
-large-buffer-requires c κs = search needs
-
-array-borrow-prefix-room : tie.Need-array-borrow-prefix-room
-array-borrow-prefix-room c = search needs
-
 slice-aggregate-read-full : tie.Need-slice-aggregate-read-full
 slice-aggregate-read-full c = front (c .before .large-buffer .result) (length (now (c .before .before .before .before .args .part))) (c .before .large-buffer .ensures) (c .before .before .if1 .left)
-
-read-full-requires : tie.Need-read-full-requires
-read-full-requires c κs = search needs
 
 returns-2 : tie.Need-returns-2
 returns-2 c = search needs
@@ -33,12 +21,6 @@ array-share-prefix-room c = room-kept (c .before .before .before .before .large-
 slice-aggregate-from-bytes : tie.Need-slice-aggregate-from-bytes
 slice-aggregate-from-bytes c = front-kept (c .before .before .before .before .before .large-buffer .result) (length (now (c .before .before .before .before .before .before .before .before .args .part))) (c .before .before .before .before .before .large-buffer .ensures) (c .before .before .before .before .before .before .if1 .left) (c .before .before .before .read-full .last .1 .0) (c .before .before .before .read-full .kept .1 .0)
 
-from-bytes-requires : tie.Need-from-bytes-requires
-from-bytes-requires c κs = search needs
-
-same-length : tie.Need-same-length
-same-length c = search needs
-
 returns-3 : tie.Need-returns-3
 returns-3 c = search needs
 
@@ -47,14 +29,14 @@ read-part-spec =
     tie.close
     (tie.spec
     returns
-    mul-len
-    large-buffer-requires
-    array-borrow-prefix-room
+    (λ c. search needs)
+    (λ c κs. search needs)
+    (λ c. search needs)
     slice-aggregate-read-full
-    read-full-requires
+    (λ c κs. search needs)
     returns-2
     array-share-prefix-room
     slice-aggregate-from-bytes
-    from-bytes-requires
-    same-length
+    (λ c κs. search needs)
+    (λ c. search needs)
     returns-3)
