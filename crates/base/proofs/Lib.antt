@@ -8,6 +8,7 @@ pub mod Perm
 pub mod Product
 pub mod Search
 pub mod Selection
+pub mod Sets
 pub mod Simulation
 pub mod Steps
 pub mod Tests

@@ -1,4 +1,4 @@
--- The steps of a search whose moves are the numbers below n, as a program takes them: one law for each way that the code goes.
+-- The steps of a search as a program takes them: one law for each way that the code goes.
 -- Assumes nothing.
 use Prim.Native.Nat.{ℕ, zero, suc, _+_, _-_, _<_, _≤_}
 use mathlib.Core.Path.{_≡_, refl, sym, ap, subst, _∙_}
@@ -6,57 +6,50 @@ use mathlib.Core.Bool.{Bool, true, false}
 use mathlib.Core.List.{List, [], _∷_}
 use native.Mathlib.Omega.{arith}
 use native.Mathlib.Numerals.{add-one, sub-one}
-use native.Mathlib.Nat.{sub-zero}
-use Rattle.base.specs.Search.{Res, still, done, Next, refuse, to, Rules, andThen, branch, deepen, through, walk, enter, walkFrom, deepenFrom}
-use Rattle.base.specs.Lists.{range}
+use Rattle.base.specs.Search.{Res, still, done, Next, refuse, to, Rules, andThen, branch, deepen, through, walk, enter, walkOver, deepenFrom}
+use Rattle.base.specs.Lists.{pick, Each}
+use Rattle.base.specs.Sets.{keep}
 
-range-end : (m n : ℕ) → n ≤ m → range m (n - m) ≡ []
-unfolding range
-range-end m n h = ap (range m) z
-  where
-    z : n - m ≡ 0
-    z = omega arith
+-- one step of a walk over listed moves
+module _ {A S X : Type 0} (r : Rules A S ℕ X) (d : ℕ) (x : X) where
+  pub over-end : (ms : List ℕ) (s : S) → ms ≡ [] → walkOver r d x ms s ≡ still s
+  unfolding walkOver walk
+  over-end ms s e = ap (λ (l : List ℕ). walk r (enter r d) x l s) e
 
-range-more : (m n : ℕ) → m < n → range m (n - m) ≡ m ∷ range (m + 1) (n - (m + 1))
-unfolding range
-range-more m n h = ap (range m) e ∙ ap (λ (i : ℕ). m ∷ range i (n - (m + 1))) (sym (add-one m))
-  where
-    e : n - m ≡ suc (n - (m + 1))
-    e = omega arith
+  module _ (j : ℕ) (l : List ℕ) (s : S) (v : r .avail x j ≡ true) where
+    over-through : (y : Next A X) → r .next x j ≡ y → walkOver r d x (j ∷ l) s ≡ through y (enter r d) (walkOver r d x l) s
+    unfolding walkOver walk branch
+    over-through y e =
+        ap (λ (b : Bool). branch b (through (r .next x j) (enter r d) (λ t. walk r (enter r d) x l t)) (λ t. walk r (enter r d) x l t) s) v
+        ∙ ap (λ (z : Next A X). through z (enter r d) (λ t. walk r (enter r d) x l t) s) e
 
-module _ {A S X : Type 0} (r : Rules A S ℕ X) (n d : ℕ) (x : X) where
-  pub walk-end : (m : ℕ) (s : S) → n ≤ m → walkFrom r n d x m s ≡ still s
-  unfolding walkFrom walk
-  walk-end m s h = ap (λ (l : List ℕ). walk r (enter r d) x l s) (range-end m n h)
-
-  -- one step, whatever it does
-  walk-step : (m : ℕ) (s : S) → m < n → walkFrom r n d x m s ≡ branch (r .avail x m) (through (r .next x m) (enter r d) (walkFrom r n d x (m + 1))) (walkFrom r n d x (m + 1)) s
-  unfolding walkFrom walk
-  walk-step m s h = ap (λ (l : List ℕ). walk r (enter r d) x l s) (range-more m n h)
-
-  module _ (m : ℕ) (s : S) (h : m < n) where
-    pub walk-skip : r .avail x m ≡ false → walkFrom r n d x m s ≡ walkFrom r n d x (m + 1) s
-    unfolding branch
-    walk-skip a = walk-step m s h ∙ ap (λ (b : Bool). branch b (through (r .next x m) (enter r d) (walkFrom r n d x (m + 1))) (walkFrom r n d x (m + 1)) s) a
-
-    walk-through : (y : Next A X) → r .avail x m ≡ true → r .next x m ≡ y → walkFrom r n d x m s ≡ through y (enter r d) (walkFrom r n d x (m + 1)) s
-    unfolding branch
-    walk-through y a e =
-        walk-step m s h
-        ∙ ap (λ (b : Bool). branch b (through (r .next x m) (enter r d) (walkFrom r n d x (m + 1))) (walkFrom r n d x (m + 1)) s) a
-        ∙ ap (λ (z : Next A X). through z (enter r d) (walkFrom r n d x (m + 1)) s) e
-
-    pub walk-refuse : {a : A} → r .avail x m ≡ true → r .next x m ≡ refuse a → walkFrom r n d x m s ≡ done a s
+    pub over-refuse : {a : A} → r .next x j ≡ refuse a → walkOver r d x (j ∷ l) s ≡ done a s
     unfolding through
-    walk-refuse {a} v e = walk-through (refuse a) v e
+    over-refuse {a} e = over-through (refuse a) e
 
-    pub walk-open : {y : X} {t : S} → r .avail x m ≡ true → r .next x m ≡ to y → enter r d y s ≡ still t → walkFrom r n d x m s ≡ walkFrom r n d x (m + 1) t
+    pub over-open : {y : X} {t : S} → r .next x j ≡ to y → enter r d y s ≡ still t → walkOver r d x (j ∷ l) s ≡ walkOver r d x l t
     unfolding through andThen
-    walk-open {y} {t} v e q = walk-through (to y) v e ∙ ap (λ (z : Res A S). andThen z (walkFrom r n d x (m + 1))) q
+    over-open {y} {t} e q = over-through (to y) e ∙ ap (λ (z : Res A S). andThen z (walkOver r d x l)) q
 
-    pub walk-done : {y : X} {a : A} {t : S} → r .avail x m ≡ true → r .next x m ≡ to y → enter r d y s ≡ done a t → walkFrom r n d x m s ≡ done a t
+    pub over-done : {y : X} {a : A} {t : S} → r .next x j ≡ to y → enter r d y s ≡ done a t → walkOver r d x (j ∷ l) s ≡ done a t
     unfolding through andThen
-    walk-done {y} {a} {t} v e q = walk-through (to y) v e ∙ ap (λ (z : Res A S). andThen z (walkFrom r n d x (m + 1))) q
+    over-done {y} {a} {t} e q = over-through (to y) e ∙ ap (λ (z : Res A S). andThen z (walkOver r d x l)) q
+
+-- The walk at x, which skips the moves that may not follow, is the walk over those that may, at a position x′ that every move may follow and that has the
+-- same positions after it.
+module _ {A S X : Type 0} (r : Rules A S ℕ X) (f : X → S → Res A S) (x x′ : X) (same : (j : ℕ) → r .next x j ≡ r .next x′ j) where
+  skip-step : (j : ℕ) (l : List ℕ) → r .avail x′ j ≡ true → ((s : S) → walk r f x l s ≡ walk r f x′ (keep (r .avail x) l) s) → (s : S) (b : Bool)
+      → branch b (through (r .next x j) f (λ t. walk r f x l t)) (λ t. walk r f x l t) s ≡ walk r f x′ (pick b (j ∷ keep (r .avail x) l) (keep (r .avail x) l)) s
+  unfolding walk branch
+  skip-step j l a ih s true =
+      (λ i. through (same j i) f (λ t. ih t i) s)
+      ∙ sym (λ i. branch (a i) (through (r .next x′ j) f (λ t. walk r f x′ (keep (r .avail x) l) t)) (λ t. walk r f x′ (keep (r .avail x) l) t) s)
+  skip-step j l a ih s false = ih s
+
+  pub walk-keep : (l : List ℕ) → Each (λ j. r .avail x′ j ≡ true) l → (s : S) → walk r f x l s ≡ walk r f x′ (keep (r .avail x) l) s
+  unfolding walk keep
+  walk-keep [] a s = refl
+  walk-keep (j ∷ l) a s = skip-step j l (a .0) (walk-keep l (a .1)) s (r .avail x j)
 
 module _ {A S : Type 0} (f : ℕ → S → Res A S) (n : ℕ) where
   pub deepen-end : (d : ℕ) (s : S) → n ≤ d → deepenFrom f n d s ≡ still s
@@ -113,11 +106,7 @@ module _ {A S X : Type 0} (r : Rules A S ℕ X) (x : X) (s : S) where
     enter-cut zero z e = absurd (z refl)
     enter-cut (suc d) z e = enter-more d true e
 
-    pub enter-walk : (d n : ℕ) → (d ≡ 0 → ⊥) → r .cut x d ≡ false → r .moves ≡ range 0 n → enter r d x s ≡ walkFrom r n (d - 1) x 0 t
-    unfolding branch walkFrom
-    enter-walk zero n z e q = absurd (z refl)
-    enter-walk (suc d) n z e q =
-        enter-more d false e
-        ∙ ap (λ (l : List ℕ). walk r (enter r d) x l t) q
-        ∙ ap (λ (k : ℕ). walk r (enter r d) x (range 0 k) t) (sym (sub-zero n))
-        ∙ ap (λ (k : ℕ). walk r (enter r k) x (range 0 (n - 0)) t) (sym (sub-one (suc d)))
+    pub enter-walk : (d : ℕ) → (d ≡ 0 → ⊥) → r .cut x d ≡ false → enter r d x s ≡ walkOver r (d - 1) x (r .moves) t
+    unfolding branch walkOver
+    enter-walk zero z e = absurd (z refl)
+    enter-walk (suc d) z e = enter-more d false e ∙ ap (λ (k : ℕ). walk r (enter r k) x (r .moves) t) (sym (sub-one (suc d)))

@@ -6,4 +6,5 @@ pub mod Parity
 pub mod Perm
 pub mod Product
 pub mod Search
+pub mod Sets
 pub mod Simulation

@@ -4,7 +4,6 @@
 use Prim.Native.Nat.{ℕ, zero, suc, _-_}
 use mathlib.Core.Bool.{Bool, true, false}
 use mathlib.Core.List.{List, [], _∷_}
-use Rattle.base.specs.Lists.{range}
 
 -- how a part of a search came out: still open, or ended with an answer; with what is left of the budget
 pub data Res (A S : Type 0) : Type 0 where
@@ -80,9 +79,9 @@ plain p =
       pay = still;
     }
 
--- what is left of the walk at x from the move m on, where the moves are the numbers below n; d: the moves to go after one
-unfoldable pub walkFrom : {A S X : Type 0} → Rules A S ℕ X → ℕ → ℕ → X → ℕ → S → Res A S
-walkFrom r n d x m s = walk r (enter r d) x (range m (n - m)) s
+-- the moves ms at x, each with d moves to go after it
+unfoldable pub walkOver : {A S M X : Type 0} → Rules A S M X → ℕ → X → List M → S → Res A S
+walkOver r d x ms s = walk r (enter r d) x ms s
 
 -- what is left of the lengths below n, from d on
 unfoldable pub deepenFrom : {A S : Type 0} → (ℕ → S → Res A S) → ℕ → ℕ → S → Res A S

@@ -11,7 +11,7 @@ use Rattle.base.specs.Search.{Res, done, branch, enter, plain}
 use Rattle.base.proofs.Finds.{in-range, range-in, says-any, says-ended, branch-says, deepen-says, deepen-is, enter-hits, plain-says}
 use Rattle.cubie.specs.Cube.{solvedCube, turn, applyMoves}
 use Rattle.cubie.specs.declared.CubieCube.{CubieCube}
-use Rattle.numbering.proofs.Phases.{phase1-column, phase2-column}
+use Rattle.moves.proofs.Columns.{phase1-column, phase2-column}
 use Rattle.moves.specs.Moves.{isAvailable}
 use Rattle.phase2.specs.Rules.{Ans, solved, nothing, Shape, phase1, phase2}
 use Rattle.phase1.specs.First.{fullOf}

@@ -14,7 +14,8 @@ use Rattle.cubie.specs.declared.CubieCube.{CubieCube}
 use Rattle.cubie.proofs.Solvable.{turn-solvable, solved-solvable}
 use Rattle.cubie.proofs.Turns.{turn-range, solved-range}
 use Rattle.numbering.specs.Kinds.{InPhase2}
-use Rattle.numbering.proofs.Phases.{phase2-column, phase2-exactly, phase2-keeps, solved-exactly}
+use Rattle.moves.proofs.Columns.{phase2-column}
+use Rattle.numbering.proofs.Phases.{phase2-exactly, phase2-keeps, solved-exactly}
 use Rattle.moves.specs.Moves.{allMoves}
 use Rattle.phase2.specs.Rules.{Coords, phase1, phase2, endsOf}
 use Rattle.phase2.specs.Second.{coords2}

@@ -13,7 +13,8 @@ use Rattle.cubie.specs.Cube.{turn, applyMoves}
 use Rattle.cubie.specs.Solvable.{solvable}
 use Rattle.cubie.specs.declared.CubieCube.{CubieCube}
 use Rattle.numbering.specs.Kinds.{InPhase2, Follows, coordinate, co, eo, eCombo, cp, udEp, eEp}
-use Rattle.numbering.proofs.Phases.{phase1-column, co-follows, eo-follows, e-combo-follows, cp-follows, ud-ep-follows, e-ep-follows}
+use Rattle.moves.proofs.Columns.{phase1-column}
+use Rattle.numbering.proofs.Phases.{co-follows, eo-follows, e-combo-follows, cp-follows, ud-ep-follows, e-ep-follows}
 use Rattle.move_row.specs.Tables.{tableAt, columns}
 use Rattle.move_table.proofs.Entries.{entry-at}
 use Rattle.pruning_table.specs.Check.{part, AllTrue}

@@ -4,7 +4,9 @@ use mathlib.Core.Bool.{Bool, false, not, _&&_}
 use mathlib.Core.List.{List, [], _∷_}
 use Prim.Native.Nat.{ℕ, _+_, _-_, _*_, _/_, _%_}
 use lib.Dec.{ltb, eqb}
-use Rattle.base.specs.Lists.{pick, inRange}
+use lib.ListN.{getD}
+use Rattle.base.specs.Lists.{pick, inRange, range}
+use Rattle.base.specs.Sets.{keep}
 
 -- a move number above 17 is 7
 abbrev pub moveRefusal : ℕ → ℕ
@@ -42,3 +44,14 @@ allMoves = 0 ∷ 1 ∷ 2 ∷ 3 ∷ 4 ∷ 5 ∷ 6 ∷ 7 ∷ 8 ∷ 9 ∷ 10 ∷ 11
 -- PHASE2_MOVES: U, U2, U3, D, D2, D3, R2, L2, F2, B2
 abbrev pub phase2Moves : List ℕ
 phase2Moves = 0 ∷ 1 ∷ 2 ∷ 3 ∷ 4 ∷ 5 ∷ 7 ∷ 10 ∷ 13 ∷ 16 ∷ []
+
+-- the move of column j of phase 1's tables, and of phase 2's
+abbrev pub phase1Move : ℕ → ℕ
+phase1Move j = getD allMoves j 0
+
+abbrev pub phase2Move : ℕ → ℕ
+phase2Move j = getD phase2Moves j 0
+
+-- the columns, of w whose moves are `name`, that may follow the move `last`, in order
+unfoldable pub openOf : (ℕ → ℕ) → ℕ → ℕ → List ℕ
+openOf name w last = keep (λ j. isAvailable last (name j)) (range 0 w)

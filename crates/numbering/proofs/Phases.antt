@@ -23,6 +23,7 @@ use Rattle.base.proofs.Product.{map-at}
 use Rattle.base.proofs.Tests.{and-true, below-true, inRange-under}
 use Rattle.cubie.specs.Cube.{InRange, product, solvedCube, quarterTurns, power, moveOf, turn}
 use Rattle.moves.specs.Moves.{allMoves, phase2Moves}
+use Rattle.moves.proofs.Columns.{phase1-column, phase2-column}
 use Rattle.cubie.specs.Solvable.{cornerTwist, solvable}
 use Rattle.cubie.specs.declared.CubieCube.{CubieCube}
 use Rattle.cubie.proofs.Product.{cube-path}
@@ -33,20 +34,6 @@ use Rattle.numbering.specs.Coordinates.{coOf, eoOf, eComboOf, cpOf, udEp
 use Rattle.numbering.specs.Kinds.{co, eo, eCombo, cp, udEp, eEp, coordinate, after, InPhase2, Follows}
 use Rattle.numbering.proofs.Numbers.{e-places}
 use Rattle.numbering.proofs.Survives.{co-survives, eo-survives, e-combo-survives}
-
--- ---- the columns are moves
-
-columns-fine : allBelow (λ j. ltb (getD allMoves j 0) 18) 18 ≡ true
-columns-fine = refl
-
-pub phase1-column : (j : ℕ) → j < 18 → getD allMoves j 0 < 18
-phase1-column j h = ltb-true _ _ (below-true (λ j. ltb (getD allMoves j 0) 18) 18 columns-fine j h)
-
-columns2-fine : allBelow (λ j. ltb (getD phase2Moves j 0) 18) 10 ≡ true
-columns2-fine = refl
-
-pub phase2-column : (j : ℕ) → j < 10 → getD phase2Moves j 0 < 18
-phase2-column j h = ltb-true _ _ (below-true (λ j. ltb (getD phase2Moves j 0) 18) 10 columns2-fine j h)
 
 -- ---- co, eo and cp: of a solvable cube the arrangement of the number is its own
 

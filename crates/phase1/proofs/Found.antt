@@ -10,7 +10,7 @@ use lib.ListN.{length, take, getD}
 use borrow.Author.Tests.{eq-eqb}
 use Rattle.base.specs.Lists.{pick}
 use Rattle.base.specs.Perm.{below}
-use Rattle.base.specs.Search.{Res, still, done, Rules, deepen, enter, walkFrom, leftOf}
+use Rattle.base.specs.Search.{Res, still, done, Rules, deepen, enter, walkOver, leftOf}
 use Rattle.base.proofs.Budget.{enter-spends, branch-spends, deepen-spends}
 use Rattle.base.proofs.Tests.{under-inRange}
 use Rattle.cubie.specs.Cube.{InRange, applyMoves}
@@ -95,11 +95,11 @@ via1 {s} {q} {k} {k′} {r} {p₁} {p₂} {o₁} {o₂} e n g =
     subst (λ (z : Res (Ans (List ℕ × List ℕ)) ℕ). Gives1 z k r p₁ p₂ o₁ o₂) (sym e) (subst (λ (z : ℕ). Gives1 q z r p₁ p₂ o₁ o₂) (sym n) g)
 
 -- the same, of a walk over paths that are the same
-pub again1 : (r : Rules (Ans (List ℕ × List ℕ)) ℕ ℕ At) (w d : ℕ) (c : Coords) (last n j s : ℕ) {k word : ℕ} {p p′ q q′ o₁ o₂ : List ℕ} → p′ ≡ p → q′ ≡ q
-    → Gives1 (walkFrom r w d (at c last (take n p′)) j s) k word p′ q′ o₁ o₂ → Gives1 (walkFrom r w d (at c last (take n p)) j s) k word p q o₁ o₂
-again1 r w d c last n j s {k} {word} {p} {p′} {q} {q′} {o₁} {o₂} e f g =
-    subst (λ (z : List ℕ). Gives1 (walkFrom r w d (at c last (take n z)) j s) k word z q o₁ o₂) e
-    (subst (λ (z : List ℕ). Gives1 (walkFrom r w d (at c last (take n p′)) j s) k word p′ z o₁ o₂) f g)
+pub again1 : (r : Rules (Ans (List ℕ × List ℕ)) ℕ ℕ At) (d : ℕ) (c : Coords) (last n : ℕ) (ms : List ℕ) (s : ℕ) {k word : ℕ} {p p′ q q′ o₁ o₂ : List ℕ} → p′ ≡ p → q′ ≡ q
+    → Gives1 (walkOver r d (at c last (take n p′)) ms s) k word p′ q′ o₁ o₂ → Gives1 (walkOver r d (at c last (take n p)) ms s) k word p q o₁ o₂
+again1 r d c last n ms s {k} {word} {p} {p′} {q} {q′} {o₁} {o₂} e f g =
+    subst (λ (z : List ℕ). Gives1 (walkOver r d (at c last (take n z)) ms s) k word z q o₁ o₂) e
+    (subst (λ (z : List ℕ). Gives1 (walkOver r d (at c last (take n p′)) ms s) k word p′ z o₁ o₂) f g)
 
 -- ---- no search gains budget
 

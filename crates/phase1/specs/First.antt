@@ -10,6 +10,9 @@ use Rattle.base.specs.Search.{Res, still, done, Rules, branch, deepen, enter}
 use Rattle.cubie.specs.Cube.{applyMoves}
 use Rattle.cubie.specs.declared.CubieCube.{CubieCube}
 use Rattle.numbering.specs.Kinds.{co, eo, eCombo, coordinate}
+use Rattle.numbering.specs.declared.Co.{Co}
+use Rattle.numbering.specs.declared.ECombo.{ECombo}
+use Rattle.numbering.specs.declared.Eo.{Eo}
 use Rattle.pruning_table.specs.Check.{part}
 use Rattle.phase2.specs.Rules.{Turns, Fars, Coords, At, at, Ans, solved, nothing, spent, refused, phase1, rules}
 use Rattle.phase2.specs.Paths.{Stored, wordOf}
@@ -28,6 +31,10 @@ fars1 p = record { pa = part 6 p; pb = part 7 p }
 -- the coordinates of a position
 abbrev pub of1 : Phase1State → Coords
 of1 x = record { a = x .co .0; b = x .eo .0; c = x .e .0 }
+
+-- the same, one by one
+abbrev pub coords : Co → Eo → ECombo → Coords
+coords co eo e = record { a = co .0; b = eo .0; c = e .0 }
 
 -- the phase-1 coordinates of a cube
 abbrev pub coords1 : CubieCube → Coords

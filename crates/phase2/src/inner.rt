@@ -1,5 +1,6 @@
 // The search of phase 2, over blocks whose lengths were tested. What it hands back is one word: a struct would go through memory.
 ghost use mathlib.Core.Path.{_≡_};
+ghost use mathlib.Core.Bool.{false};
 ghost use Prim.Native.Nat.{_+_, _*_, _≤_, _<_, max};
 ghost use lib.ListN.{length, take};
 ghost use Rattle.base.specs.Search.{enter};
@@ -13,8 +14,11 @@ use cubie::CubieCube;
 use move_table::CP_AT;
 use move_table::E_EP_AT;
 use move_table::UD_EP_AT;
-use moves::inner::is_move_available;
+use moves::NO_MOVE;
+use moves::inner::first_column;
+use moves::inner::other_columns;
 use moves::inner::phase2_move;
+use moves::inner::phase2_open;
 use numbering::Cp;
 use numbering::EEp;
 use numbering::UdEp;
@@ -87,6 +91,16 @@ fn cut_at_once(prunes: &[u8], x: Phase2State, d: usize, left: u32) -> bool
     prune(prunes, x, d)
 }
 
+// The position x, with m as the move that led to it.
+fn after(x: Phase2State, m: u8) -> Phase2State
+    ensures { λ r. ⌜ (of2 r ≡ of2 x) × (r .last ≡ m) ⌝ }
+{
+    let cp = x.cp;
+    let ep = x.ep;
+    let e = x.e;
+    Phase2State { cp, ep, e, last: m }
+}
+
 // The position after m, the move of column j, by the three move tables.
 fn next(moves: &[u16], x: Phase2State, j: usize, m: u8) -> Turned
     requires { ⌜ length (now moves) ≡ 891780 ⌝ }
@@ -112,8 +126,61 @@ fn next(moves: &[u16], x: Phase2State, j: usize, m: u8) -> Turned
     Turned::Refused
 }
 
-// An entry into x, with d moves to go. The n moves so far stand in `path`. It calls itself from its loop over the ten moves.
+// An entry into x, with d moves to go, that isn't cut at once. The n moves so far stand in `path`. It calls itself from its loop over the moves.
 // The answer is one word: the budget left and, times 2^32, 0 still open, 1 none, 2 spent, 3 refused, 4 + n solved by n moves.
+fn enter_phase2(
+    moves: &&[u16],
+    prunes: &&[u8],
+    x: Phase2State,
+    n: usize,
+    path: &mut [u8; 31],
+    d: usize,
+    left: u32,
+) -> u64
+    requires { ⌜ Blocks (now (now moves)) (now (now prunes)) ⌝ }
+    requires { ⌜ Below phase2 (of2 x) ⌝ }
+    requires { ⌜ n + d ≤ 31 ⌝ }
+    requires { ⌜ Holds (now path) n ⌝ }
+    requires { ⌜ cutAtOnce phase2 (fars2 (now (now prunes))) (of2 x) d left ≡ false ⌝ }
+    ensures { λ r. ⌜ Gives2 (enter (rules2 (turns2 (now (now (moves .entry)))) (fars2 (now (now (prunes .entry))))) d (at (of2 x) (x .last) (take n (now (path .entry)))) left) r (now (path .entry)) (now (path .exit)) ⌝ }
+{
+    if left == 0 {
+        return 8589934592;
+    }
+    let mut rest = left - 1;
+    if d == 0 {
+        if is_solved(x) {
+            return (4 + (n as u64)) * 4294967296 + (rest as u64);
+        }
+        return rest as u64;
+    }
+    let mut set = phase2_open(x.last);
+    while set != 0 {
+        let j = first_column(set);
+        set = other_columns(set);
+        let step = next(*moves, x, j, NO_MOVE);
+        match step {
+            Turned::Refused => return 12884901888 + (rest as u64),
+            Turned::To(y) => {
+                if cut_at_once(*prunes, y, d - 1, rest) {
+                    rest -= 1;
+                } else {
+                    let m = phase2_move(j);
+                    path[n] = m;
+                    let r = enter_phase2(moves, prunes, after(y, m), n + 1, path, d - 1, rest);
+                    if 4294967296 <= r {
+                        return r;
+                    }
+                    path[n] = 0;
+                    rest = r as u32;
+                }
+            }
+        }
+    }
+    rest as u64
+}
+
+// An entry into x, with d moves to go. The n moves so far stand in `path`. The answer is a word as enter_phase2's.
 pub fn solve_phase2(
     moves: &&[u16],
     prunes: &&[u8],
@@ -129,42 +196,8 @@ pub fn solve_phase2(
     requires { ⌜ Holds (now path) n ⌝ }
     ensures { λ r. ⌜ Gives2 (enter (rules2 (turns2 (now (now (moves .entry)))) (fars2 (now (now (prunes .entry))))) d (at (of2 x) (x .last) (take n (now (path .entry)))) left) r (now (path .entry)) (now (path .exit)) ⌝ }
 {
-    if left == 0 {
-        return 8589934592;
+    if cut_at_once(*prunes, x, d, left) {
+        return (left - 1) as u64;
     }
-    let mut rest = left - 1;
-    if d == 0 {
-        if is_solved(x) {
-            return (4 + (n as u64)) * 4294967296 + (rest as u64);
-        }
-        return rest as u64;
-    }
-    if prune(*prunes, x, d) {
-        return rest as u64;
-    }
-    let mut j = 0;
-    while j < 10 {
-        let m = phase2_move(j);
-        if is_move_available(x.last, m) {
-            let step = next(*moves, x, j, m);
-            match step {
-                Turned::Refused => return 12884901888 + (rest as u64),
-                Turned::To(y) => {
-                    if cut_at_once(*prunes, y, d - 1, rest) {
-                        rest -= 1;
-                    } else {
-                        path[n] = m;
-                        let r = solve_phase2(moves, prunes, y, n + 1, path, d - 1, rest);
-                        if 4294967296 <= r {
-                            return r;
-                        }
-                        path[n] = 0;
-                        rest = r as u32;
-                    }
-                }
-            }
-        }
-        j += 1;
-    }
-    rest as u64
+    enter_phase2(moves, prunes, x, n, path, d, left)
 }
