@@ -37,7 +37,7 @@ fn row(what: &'static str, cubes: &[CubieCube], limit: u8, data: &DataTable, tab
         kewb.push(each * theirs);
         product.push(each * ours);
     }
-    Row { what, kewb: spread(kewb), product: spread(product), bar: 0.55 }
+    Row { what, kewb: spread(kewb), product: spread(product), bar: 0.33 }
 }
 
 /// Both searches of a cube: the lists and the count must be the same. Gives the count.

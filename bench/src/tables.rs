@@ -14,7 +14,7 @@ pub fn measure(rounds: usize) -> Vec<Row> {
         check.push(1e3 * timed(|| tables.check()));
     }
     vec![
-        Row { what: "build of all ten tables, ms", kewb: spread(kewb.clone()), product: spread(build), bar: 0.9 },
-        Row { what: "check of all ten, beside kewb's build, ms", kewb: spread(kewb), product: spread(check), bar: 0.5 },
+        Row { what: "build of all ten tables, ms", kewb: spread(kewb.clone()), product: spread(build), bar: 0.55 },
+        Row { what: "check of all ten, beside kewb's build, ms", kewb: spread(kewb), product: spread(check), bar: 0.37 },
     ]
 }
