@@ -1,4 +1,4 @@
--- What the check of one table tells, and the tables before it. Assumes nothing.
+-- What the check of one table tells, and what the checks of several tell together. Assumes nothing.
 use mathlib.Core.Path.{_≡_, refl, sym, ap, subst, subst₂, _∙_}
 use mathlib.Core.Bool.{Bool, true, false}
 use mathlib.Core.List.{List, [], _∷_}
@@ -10,13 +10,16 @@ use lib.Dec.{eqb}
 use lib.ListN.{length, getD, take, drop}
 use borrow.Author.Tests.{eqb-true, eqb-false}
 use Rattle.base.specs.Lists.{pick}
+use Rattle.base.proofs.Perm.{less-cut}
 use Rattle.move_row.specs.Tables.{tableAt, columns, trueTable, firstOff}
 use Rattle.move_table.proofs.Rows.{table-length}
 use Rattle.pruning_table.specs.Check.{firstOf, secondOf, rows, entries, part, Blocks}
 use Rattle.pair_table.specs.Pairs.{next, held, Fine}
 use Rattle.pruning_table.proofs.Parts.{Spot, spot-len, slice1, slice2, slice}
 use Rattle.pruning_table.proofs.Ten.{move-entries, move-within, part-length}
-use Rattle.table_check.specs.Check.{Tells, MoveFine, PruneFine, FineAt}
+use Rattle.table_check.specs.Check.{Tells, MoveFine, PruneFine, FineAt, ChecksIn, Checks}
+use Rattle.table_check.specs.declared.Checked.{Checked}
+use Rattle.table_check.specs.declared.Checked.the-variants as checked
 use Rattle.table_check.specs.declared.Rule.{Rule}
 use Rattle.table_check.specs.declared.Rule.the-variants.{Holds, Fails}
 
@@ -78,7 +81,7 @@ module _ {t a b k n1 n2 i j p : ℕ} (s : Spot t a b k n1 n2 i j p) (moves prune
       (subst (λ (z : List ℕ). Tells (Fine (next (part (firstOf t) moves) (part (secondOf t) moves) n2 k) k (held z)) (n1 * n2) r) (slice s moves prunes w)
       (subst₂ (λ (x y : List ℕ). Tells (Fine (next x y n2 k) k (held (take (p + n1 * n2 - p) (drop p prunes)))) (n1 * n2) r) (slice1 s moves prunes w) (slice2 s moves prunes w) h)))
 
--- ---- table t by its own rule, and the tables before it
+-- ---- table t by its own rule
 
 tells-map : (P Q : ℕ → Type 0) → ((e : ℕ) → P e → Q e) → ((e : ℕ) → Q e → P e) → (n : ℕ) (r : Rule) → Tells P n r → Tells Q n r
 tells-map P Q f g n Holds h = λ p l. f p (h p l)
@@ -93,14 +96,37 @@ module _ (moves prunes : List ℕ) (t : ℕ) where
   prune-rule h =
       tells-map (PruneFine moves prunes t) (FineAt moves prunes t) (λ e f. record { move = λ l. absurd (omega arith); prune = λ l. f }) (λ e f. f .prune h) (entries t)
 
-  -- all tables before t are right
-  abbrev pub Before : Type 0
-  Before = (s : ℕ) → s < t → (d : ℕ) → d < entries s → FineAt moves prunes s d
+-- ---- the tables from `low` on
 
-pub before-none : (moves prunes : List ℕ) → Before moves prunes 0
-before-none moves prunes s h = absurd (not-suc-le-zero h)
+module _ (moves prunes : List ℕ) (low t : ℕ) (before : ChecksIn low t moves prunes checked.Good) {r : Rule} where
+  -- table t is right too
+  pub in-more : r ≡ Holds → Tells (FineAt moves prunes t) (entries t) r → ChecksIn low (t + 1) moves prunes checked.Good
+  in-more is h s k l d g =
+      ⊎-elim (λ (e : s ≡ t). subst (λ (x : ℕ). d < entries x → FineAt moves prunes x d) (sym e) ((rw is at h) d) g) (λ (m : s < t). before s k m d g)
+      (eq-or-lt-of-le {n = s} {m = t} (omega arith))
 
-pub before-more : (moves prunes : List ℕ) (t : ℕ) → Before moves prunes t → Tells (FineAt moves prunes t) (entries t) Holds → Before moves prunes (t + 1)
-before-more moves prunes t b h s l d g =
-    ⊎-elim (λ (e : s ≡ t). subst (λ (x : ℕ). d < entries x → FineAt moves prunes x d) (sym e) (h d) g) (λ (k : s < t). b s k d g)
-    (eq-or-lt-of-le {n = s} {m = t} (omega arith))
+  -- table t is the lowest that isn't right
+  pub in-bad : {e : ℕ} (high : ℕ) → low ≤ t → t < high → r ≡ Fails e → Tells (FineAt moves prunes t) (entries t) r
+      → ChecksIn low high moves prunes (checked.Bad t e)
+  in-bad {e} high k l is h = let f : Tells (FineAt moves prunes t) (entries t) (Fails e) = rw is at h in (k, l, f .0, before, f .1, f .2)
+
+-- ---- the six and the four are all ten
+
+module _ (moves prunes : List ℕ) (w : Blocks moves prunes) {r : Checked} where
+  -- a bad move table is the lowest bad table
+  pub bad-move : {t e : ℕ} → r ≡ checked.Bad t e → ChecksIn 0 6 moves prunes r → Checks moves prunes (checked.Bad t e)
+  bad-move {t} {e} is g =
+      let h : ChecksIn 0 6 moves prunes (checked.Bad t e) = rw is at g in
+      (w, omega (arith, h .1), h .2, λ s. h .3 s (omega arith), h .4, h .5)
+
+  -- where the move tables are right, the pruning tables decide
+  pub good-moves : r ≡ checked.Good → ChecksIn 0 6 moves prunes r → (a : Checked) → ChecksIn 6 10 moves prunes a → Checks moves prunes a
+  good-moves is g = go
+    where
+      join : (n : ℕ) → ChecksIn 6 n moves prunes checked.Good → (s : ℕ) → s < n → (d : ℕ) → d < entries s → FineAt moves prunes s d
+      join n h s l = ⊎-elim (λ u. (rw is at g) s (omega arith) (u .0)) (λ u. h s (u .0) l) (less-cut s 6)
+
+      go : (a : Checked) → ChecksIn 6 10 moves prunes a → Checks moves prunes a
+      go checked.Length h = absurd h
+      go checked.Good h = (w, join 10 h)
+      go (checked.Bad t e) h = (w, h .1, h .2, join t (h .3), h .4, h .5)

@@ -32,6 +32,15 @@ abbrev pub Tells : (ℕ → Type 0) → ℕ → Rule → Type 0
 Tells P n Holds = (p : ℕ) → p < n → P p
 Tells P n (Fails p) = (p < n) × ((q : ℕ) → q < p → P q) × (P p → ⊥)
 
+-- of the tables from `low` up to `high` all are right, or t is the lowest that isn't, and e its lowest bad entry
+abbrev pub ChecksIn : ℕ → ℕ → List ℕ → List ℕ → Checked → Type 0
+ChecksIn low high moves prunes checked.Length = ⊥
+ChecksIn low high moves prunes checked.Good = (t : ℕ) → low ≤ t → t < high → (e : ℕ) → e < entries t → FineAt moves prunes t e
+ChecksIn low high moves prunes (checked.Bad t e) =
+    (low ≤ t) × (t < high) × (e < entries t)
+    × ((s : ℕ) → low ≤ s → s < t → (d : ℕ) → d < entries s → FineAt moves prunes s d) × ((d : ℕ) → d < e → FineAt moves prunes t d)
+    × (FineAt moves prunes t e → ⊥)
+
 -- "Table check: 10, then 13", "with the lowest bad table and entry"
 abbrev pub Checks : List ℕ → List ℕ → Checked → Type 0
 Checks moves prunes checked.Length = Blocks moves prunes → ⊥

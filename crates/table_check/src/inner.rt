@@ -1,12 +1,14 @@
 // The rule of the check at any counts, which the check of all ten calls, and the loops under it.
 ghost use mathlib.Core.Path.{_≡_};
-ghost use Prim.Native.Nat.{_*_, _≤_, _<_};
+ghost use mathlib.Core.List.{List};
+ghost use Prim.Native.Nat.{ℕ, _*_, _≤_, _<_};
 ghost use lib.ListN.{length};
 ghost use Rattle.pair_table.specs.Answers.{Decides};
 ghost use Rattle.pruning_table.specs.Check.{entries, Blocks};
 ghost use Rattle.pair_table.specs.Pairs.{next, held, Fine};
 ghost use Rattle.pair_table.specs.Tables.{Counts, TableSizes};
-ghost use Rattle.table_check.specs.Check.{Tells, MoveFine, PruneFine, FineAt};
+ghost use Rattle.table_check.specs.Check.{Tells, MoveFine, PruneFine, ChecksIn};
+use crate::Checked;
 use crate::Rule;
 use move_row::inner::columns_of;
 use move_row::inner::rows_of;
@@ -107,13 +109,34 @@ fn check_prune_table(t: u8, moves: &[u16], prunes: &[u8]) -> Rule
     )
 }
 
-// Table t by its own rule.
-pub(crate) fn check_table(t: u8, moves: &[u16], prunes: &[u8]) -> Rule
-    requires { ⌜ (t < 10) × Blocks (now moves) (now prunes) ⌝ }
-    ensures { λ r. ⌜ Tells (FineAt (now (moves .entry)) (now (prunes .entry)) t) (entries t) r ⌝ }
+// The six move tables. (Six tables and four have a loop each: the compiler then knows the counts of each pruning table.)
+pub(crate) fn check_move_tables(moves: &[u16]) -> Checked
+    requires { ⌜ length (now moves) ≡ 891780 ⌝ }
+    ensures { λ r. ⌜ ((p : List ℕ) → ChecksIn 0 6 (now (moves .entry)) p r) ⌝ }
 {
-    if t < 6 {
-        return check_move_table(t, moves);
+    let mut t: u8 = 0;
+    while t < 6 {
+        match check_move_table(t, moves) {
+            Rule::Fails(e) => return Checked::Bad(t, e),
+            Rule::Holds => {}
+        }
+        t += 1;
     }
-    check_prune_table(t, moves, prunes)
+    Checked::Good
+}
+
+// The four pruning tables, by the lent move tables.
+pub(crate) fn check_prune_tables(moves: &[u16], prunes: &[u8]) -> Checked
+    requires { ⌜ Blocks (now moves) (now prunes) ⌝ }
+    ensures { λ r. ⌜ ChecksIn 6 10 (now (moves .entry)) (now (prunes .entry)) r ⌝ }
+{
+    let mut t: u8 = 6;
+    while t < 10 {
+        match check_prune_table(t, moves, prunes) {
+            Rule::Fails(p) => return Checked::Bad(t, p),
+            Rule::Holds => {}
+        }
+        t += 1;
+    }
+    Checked::Good
 }

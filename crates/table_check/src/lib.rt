@@ -30,13 +30,10 @@ pub fn check_tables(moves: &[u16], prunes: &[u8]) -> Checked
     if prunes.len() != PRUNES_LEN {
         return Checked::Length;
     }
-    let mut t: u8 = 0;
-    while t < 10 {
-        match inner::check_table(t, moves, prunes) {
-            Rule::Fails(e) => return Checked::Bad(t, e),
-            Rule::Holds => {}
-        }
-        t += 1;
+    match inner::check_move_tables(moves) {
+        Checked::Length => return Checked::Length,
+        Checked::Bad(t, e) => return Checked::Bad(t, e),
+        Checked::Good => {}
     }
-    Checked::Good
+    inner::check_prune_tables(moves, prunes)
 }
