@@ -11,7 +11,7 @@ use Rattle.cubie.specs.declared.CubieCube.{CubieCube}
 use Rattle.moves.proofs.Columns.{phase1-column, phase2-column}
 use Rattle.phase2.specs.Rules.{Ans, nothing, spent, refused, Shape, phase1, phase2, Turns, Fars, Coords, At, at, belowOf, goOf, moved, nextOf, payOf, rules}
 use Rattle.phase2.specs.Second.{finish2}
-use Rattle.phase1.specs.First.{fullOf, finish1, tableSolve}
+use Rattle.phase1_steps.specs.First.{fullOf, finish1, tableSolve}
 use Rattle.demands.proofs.Lengths.{Grown, grown-none, grown-more, Short, short-grown, short-both, Means, under-says}
 
 module _ {L : Type 0} (P : Ans L → Type 0) (out : P spent) (off : P refused) where

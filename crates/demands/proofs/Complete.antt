@@ -14,7 +14,7 @@ use Rattle.cubie.specs.declared.CubieCube.{CubieCube}
 use Rattle.moves.proofs.Columns.{phase1-column, phase2-column}
 use Rattle.moves.specs.Moves.{isAvailable}
 use Rattle.phase2.specs.Rules.{Ans, solved, nothing, Shape, phase1, phase2}
-use Rattle.phase1.specs.First.{fullOf}
+use Rattle.phase1_steps.specs.First.{fullOf}
 use Rattle.demands.specs.Plain.{Position, from, isEnd1, isEnd2, plainOf, plain2, plainFinish, plain1, plainSearch}
 use Rattle.solver.proofs.Cubes.{moves-append}
 use Rattle.demands.proofs.Agreement.{move-more}

@@ -22,7 +22,7 @@ use Rattle.table_check.specs.declared.Checked.the-variants as checked
 use Rattle.table_check.proofs.Ten.{passes-exactly}
 use Rattle.phase2.specs.Rules.{Ans, solved, nothing, spent, refused}
 use Rattle.phase2.specs.Second.{turns2, fars2}
-use Rattle.phase1.specs.First.{turns1, fars1, coords1}
+use Rattle.phase1_steps.specs.First.{turns1, fars1, coords1}
 use Rattle.solver.specs.Solve.{solveOf}
 use Rattle.solver.specs.declared.Found.the-variants as found
 use Rattle.solver.specs.declared.Solution.{Solution}

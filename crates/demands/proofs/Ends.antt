@@ -19,7 +19,7 @@ use Rattle.numbering.proofs.Phases.{phase2-exactly, phase2-keeps, solved-exactl
 use Rattle.moves.specs.Moves.{allMoves}
 use Rattle.phase2.specs.Rules.{Coords, phase1, phase2, endsOf}
 use Rattle.phase2.specs.Second.{coords2}
-use Rattle.phase1.specs.First.{coords1}
+use Rattle.phase1_steps.specs.First.{coords1}
 use Rattle.demands.specs.Plain.{isEnd1, isEnd2}
 
 -- a cube to search

@@ -17,7 +17,7 @@ use Rattle.facelet.specs.Reader.{isColor, allColors, firstFrom, twistSeen, corn
 use Rattle.facelet.specs.Stickers.{cornerFacelet, edgeFacelet, cornerColor, edgeColor, solvedFace}
 use Rattle.moves.specs.Moves.{isInverse, isSameLayer, isAvailable}
 use Rattle.phase2.specs.Rules.{solved, nothing, endsOf}
-use Rattle.phase1.specs.First.{under}
+use Rattle.phase1_steps.specs.First.{under}
 use Rattle.demands.specs.Plain.{isEnd1, isEnd2, plainFinish, plainSearch}
 use Rattle.demands.specs.Examples.{Example, examples, allAsSaid}
 

@@ -22,7 +22,7 @@ use Rattle.pair_table.specs.Pairs.{held}
 use Rattle.pruning_table.proofs.Cuts.{co-small, eo-small, e-combo-small, cp-small, ud-ep-small, e-ep-small, cut-co-e, cut-eo-e, cut-cp-e, cut-ep-e}
 use Rattle.phase2.specs.Rules.{Shape, phase1, phase2, Fars, Coords, belowOf, cutOf, goOf}
 use Rattle.phase2.specs.Second.{turns2, fars2, coords2}
-use Rattle.phase1.specs.First.{turns1, fars1, coords1}
+use Rattle.phase1_steps.specs.First.{turns1, fars1, coords1}
 use Rattle.demands.specs.Plain.{isEnd1, isEnd2}
 use Rattle.demands.proofs.Agreement.{NoPath, Tells}
 use Rattle.demands.proofs.Ends.{Good, Inside, good-turn, inside-turn, ends-zero}

@@ -13,7 +13,7 @@ use Rattle.cubie.specs.declared.CubieCube.{CubieCube}
 use Rattle.moves.specs.Moves.{isAvailable}
 use Rattle.phase2.specs.Rules.{Ans, solved, nothing, spent, refused, Shape, phase1, phase2, endsOf}
 use Rattle.phase2.specs.Second.{coords2}
-use Rattle.phase1.specs.First.{coords1, under, fullOf}
+use Rattle.phase1_steps.specs.First.{coords1, under, fullOf}
 use Rattle.pruning_table.specs.Check.{AllTrue}
 use Rattle.solver.specs.Solve.{firstList, secondList}
 use Rattle.solver.specs.declared.Found.the-variants as found

@@ -1,20 +1,2 @@
-// Phase 1 of the search: Phase1State and solve_phase1 of kewb's src/two_phase/solver.rs.
-use numbering::Co;
-use numbering::ECombo;
-use numbering::Eo;
-
+// Phase 1 of the search: solve_phase1 of kewb's src/two_phase/solver.rs, as a cycle of three functions. What they call is in phase1_steps.
 pub mod inner;
-
-// A position of phase 1, and the move that led to it; 18 is no move yet. Eight bytes: it travels in one register.
-pub struct Phase1State {
-    pub co: Co,
-    pub eo: Eo,
-    pub e: ECombo,
-    pub last: u8,
-}
-
-// The position after a move, or an entry of a table that is not below its coordinate's count.
-pub enum Turned {
-    To(Phase1State),
-    Refused,
-}

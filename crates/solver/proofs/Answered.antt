@@ -15,7 +15,7 @@ use Rattle.cubie.specs.Solvable.{solvable}
 use Rattle.cubie.specs.declared.CubieCube.{CubieCube}
 use Rattle.phase2.specs.Rules.{Coords, Ans, at}
 use Rattle.phase2.specs.Second.{turns2, fars2}
-use Rattle.phase1.specs.First.{turns1, fars1, coords1, search1, tableSolve}
+use Rattle.phase1_steps.specs.First.{turns1, fars1, coords1, search1, tableSolve}
 use Rattle.solver.specs.Solve.{noLists, firstList, secondList, solves, checkedBy, checked, searched, searchRefusal, solveOf}
 use Rattle.solver.specs.declared.Found.{Found}
 use Rattle.solver.specs.declared.Found.the-variants as found

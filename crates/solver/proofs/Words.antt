@@ -9,7 +9,7 @@ use Rattle.base.specs.Lists.{Under}
 use Rattle.base.specs.Search.{Res, still, done, leftOf}
 use Rattle.phase2.specs.Rules.{Ans, solved, nothing, spent, refused}
 use Rattle.phase2.specs.Paths.{padded, Stored, wordOf}
-use Rattle.phase1.specs.First.{Leaves1}
+use Rattle.phase1_steps.specs.First.{Leaves1}
 use Rattle.solver.specs.Solve.{noLists, answerOf, HasMoves}
 use Rattle.solver.specs.declared.Found.{Found}
 use Rattle.solver.specs.declared.Found.the-variants as found

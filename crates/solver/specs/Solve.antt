@@ -13,7 +13,7 @@ use Rattle.cubie.specs.declared.CubieCube.{CubieCube}
 use Rattle.phase2.specs.Rules.{Ans, solved, nothing, spent, refused}
 use Rattle.phase2.specs.Paths.{padded}
 use Rattle.phase2.specs.Second.{turns2, fars2}
-use Rattle.phase1.specs.First.{turns1, fars1, coords1, tableSolve, Gives1}
+use Rattle.phase1_steps.specs.First.{turns1, fars1, coords1, tableSolve, Gives1}
 use Rattle.solver.specs.declared.Found.{Found}
 use Rattle.solver.specs.declared.Found.the-variants as found
 use Rattle.solver.specs.declared.Solution.{Solution}

@@ -8,13 +8,13 @@ ghost use Rattle.cubie.specs.Cube.{refusalOf, cubeOf};
 ghost use Rattle.cubie.specs.Solvable.{solvable};
 ghost use Rattle.pruning_table.specs.Check.{Blocks};
 ghost use Rattle.phase2.specs.Second.{turns2, fars2};
-ghost use Rattle.phase1.specs.First.{turns1, fars1, coords1, tableSolve};
+ghost use Rattle.phase1_steps.specs.First.{turns1, fars1, coords1, tableSolve};
 ghost use Rattle.solver.specs.Solve.{noLists, answerOf, HasMoves, ReadOff, solves, checked, searchRefusal, solveOf};
 use cubie::CubieCube;
 use cubie::inner;
 use move_table::MOVES_LEN;
-use phase1::inner::phase1_state;
 use phase1::inner::solve_phase1;
+use phase1_steps::inner::phase1_state;
 use pruning_table::PRUNES_LEN;
 
 // How a search came out.

@@ -14,8 +14,8 @@ use Rattle.phase2.specs.Rules.{Ans}
 use Rattle.phase2.specs.Paths.{Holds}
 use Rattle.phase2.proofs.Facts.{word-open, word-ended}
 use Rattle.phase2.proofs.Path.{holds-none}
-use Rattle.phase1.specs.First.{of1}
-use Rattle.phase1.proofs.Found.{open1, via1, enter1-spends}
+use Rattle.phase1_steps.specs.First.{of1}
+use Rattle.phase1_steps.proofs.Found.{open1, via1, enter1-spends}
 use Rattle.solver.specs.Solve.{answerOf}
 use Rattle.solver.proofs.Answered.{run, runs-all}
 use Rattle.solver.proofs.Words.{made-fits, no-moves}

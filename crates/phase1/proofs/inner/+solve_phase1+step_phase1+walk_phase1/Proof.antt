@@ -16,8 +16,9 @@ use Rattle.phase2.specs.Paths.{Holds, wordOf}
 use Rattle.phase2.proofs.Facts.{word-open, word-ended}
 use Rattle.phase2.proofs.Path.{holds-more, popped}
 use Rattle.phase2.proofs.Steps.{spends, finishes, leaves, cuts, paid, same-cut, uncut, walks-open, cut-paid, refuses, passes, back-open, back-done}
-use Rattle.phase1.specs.First.{Leaves1}
-use Rattle.phase1.proofs.Found.{was-refused1, was-made1, made-below1, over1, open1, gives1, via1, again1, enter1-spends}
+use Rattle.phase1_steps.specs.First.{Leaves1}
+use Rattle.phase1_steps.proofs.Found.{open1, gives1, via1, enter1-spends}
+use Rattle.phase1.proofs.Found.{was-refused1, was-made1, made-below1, over1, again1}
 use borrow.Author.Needs.{needs}
 use borrow.Fn.Kinds.{In}
 use borrow.Fn.PlainCycle.{Measures, is, falls, and}
@@ -31,13 +32,13 @@ use Rattle.phase1.proofs.inner.walk_phase1.Reads as walk-phase1
 use Rattle.phase1.proofs.inner.walk_phase1.Kinds as walk-phase1-kinds
 use Rattle.phase1.proofs.inner.+solve_phase1+step_phase1+walk_phase1.Lts-walk_phase1 as walk-phase1-lts
 use Rattle.moves.proofs.inner.phase1_move.Reads as phase1-move-reads
-use Rattle.phase1.proofs.inner.after.Reads as after-reads
-use Rattle.phase1.proofs.inner.cut_at_once.Reads as cut-at-once-reads
-use Rattle.phase1.proofs.inner.end_phase1.Reads as end-phase1-reads
-use Rattle.phase1.proofs.inner.is_solved.Reads as is-solved-reads
-use Rattle.phase1.proofs.inner.next.Reads as next-reads
+use Rattle.phase1_steps.proofs.inner.after.Reads as after-reads
+use Rattle.phase1_steps.proofs.inner.cut_at_once.Reads as cut-at-once-reads
+use Rattle.phase1_steps.proofs.inner.end_phase1.Reads as end-phase1-reads
+use Rattle.phase1_steps.proofs.inner.is_solved.Reads as is-solved-reads
+use Rattle.phase1_steps.proofs.inner.next.Reads as next-reads
 use Rattle.moves.proofs.inner.phase1_open.Reads as phase1-open-reads
-use Rattle.phase1.proofs.inner.prune.Reads as prune-reads
+use Rattle.phase1_steps.proofs.inner.prune.Reads as prune-reads
 use Rattle.moves.proofs.inner.first_column.Reads as first-column-reads
 use Rattle.moves.proofs.inner.other_columns.Reads as other-columns-reads
 use Rattle.phase1.proofs.inner.+solve_phase1+step_phase1+walk_phase1.{statement}

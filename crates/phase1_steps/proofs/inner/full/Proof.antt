@@ -1,9 +1,9 @@
--- `phase1::inner::full` meets its contract: two tests. Assumes nothing.
+-- `phase1_steps::inner::full` meets its contract: two tests. Assumes nothing.
 use Prim.Native.Nat.{_<_}
 use native.Mathlib.Omega.{arith}
 use borrow.Author.Tests.{lt-ltb}
-use Rattle.phase1.proofs.inner.full.Statement.{statement}
-use Rattle.phase1.proofs.inner.full.Tie as tie
+use Rattle.phase1_steps.proofs.inner.full.Statement.{statement}
+use Rattle.phase1_steps.proofs.inner.full.Tie as tie
 
 returns : tie.Need-returns
 returns c = rw (c .if1 .taken)

@@ -17,9 +17,9 @@ use Rattle.pruning_table.specs.Check.{part}
 use Rattle.phase2.specs.Rules.{Turns, Fars, Coords, At, at, Ans, solved, nothing, spent, refused, phase1, rules}
 use Rattle.phase2.specs.Paths.{Stored, wordOf}
 use Rattle.phase2.specs.Second.{turns2, fars2, coords2, run2}
-use Rattle.phase1.specs.declared.Phase1State.{Phase1State}
-use Rattle.phase1.specs.declared.Turned.{Turned}
-use Rattle.phase1.specs.declared.Turned.the-variants.{To, Refused}
+use Rattle.phase1_steps.specs.declared.Phase1State.{Phase1State}
+use Rattle.phase1_steps.specs.declared.Turned.{Turned}
+use Rattle.phase1_steps.specs.declared.Turned.the-variants.{To, Refused}
 
 -- tables 0, 1 and 2, and tables 6 and 7, in their blocks
 unfoldable pub turns1 : List ℕ → Turns

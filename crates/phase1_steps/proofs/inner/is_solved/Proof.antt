@@ -1,8 +1,8 @@
--- `phase1::inner::is_solved` meets its contract: three tests, one after the other. Assumes nothing.
+-- `phase1_steps::inner::is_solved` meets its contract: three tests, one after the other. Assumes nothing.
 use borrow.Author.Tests.{eq-eqb, ne-eqb}
 use Rattle.phase2.specs.Rules.{endsOf}
-use Rattle.phase1.proofs.inner.is_solved.Statement.{statement}
-use Rattle.phase1.proofs.inner.is_solved.Tie as tie
+use Rattle.phase1_steps.proofs.inner.is_solved.Statement.{statement}
+use Rattle.phase1_steps.proofs.inner.is_solved.Tie as tie
 
 returns : tie.Need-returns
 unfolding endsOf

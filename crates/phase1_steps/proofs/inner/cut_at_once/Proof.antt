@@ -1,12 +1,12 @@
--- `phase1::inner::cut_at_once` meets its contract: the budget, the moves to go and the cut. Assumes nothing.
+-- `phase1_steps::inner::cut_at_once` meets its contract: the budget, the moves to go and the cut. Assumes nothing.
 use Prim.Native.Nat.{_<_}
 use mathlib.Core.Path.{_≡_, sym, ap, _∙_}
 use mathlib.Core.Bool.{Bool, _&&_}
 use native.Mathlib.Omega.{arith}
 use borrow.Author.Needs.{needs}
 use Rattle.phase2.proofs.Steps.{unpaid, no-depth, paid}
-use Rattle.phase1.proofs.inner.cut_at_once.Statement.{statement}
-use Rattle.phase1.proofs.inner.cut_at_once.Tie as tie
+use Rattle.phase1_steps.proofs.inner.cut_at_once.Statement.{statement}
+use Rattle.phase1_steps.proofs.inner.cut_at_once.Tie as tie
 
 returns : tie.Need-returns
 returns c = sym (unpaid _ _ _ _ _ (c .if1 .taken))

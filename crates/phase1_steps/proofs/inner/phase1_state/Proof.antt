@@ -1,14 +1,14 @@
--- `phase1::inner::phase1_state` meets its contract: the three numbers, each below its count. Assumes nothing.
+-- `phase1_steps::inner::phase1_state` meets its contract: the three numbers, each below its count. Assumes nothing.
 use mathlib.Core.Path.{_≡_, refl, sym, subst}
 use lib.ListN.{length}
 use Rattle.cubie.proofs.Range.{ranges, in-range}
 use Rattle.numbering.proofs.Phases.{four-low}
 use Rattle.phase2.specs.Rules.{Below, phase1}
-use Rattle.phase1.specs.First.{coords1}
-use Rattle.phase1.proofs.Found.{coords-below}
+use Rattle.phase1_steps.specs.First.{coords1}
+use Rattle.phase1_steps.proofs.Found.{coords-below}
 use borrow.Author.Needs.{needs}
-use Rattle.phase1.proofs.inner.phase1_state.Statement.{statement}
-use Rattle.phase1.proofs.inner.phase1_state.Tie as tie
+use Rattle.phase1_steps.proofs.inner.phase1_state.Statement.{statement}
+use Rattle.phase1_steps.proofs.inner.phase1_state.Tie as tie
 
 co-to-index-requires : tie.Need-co-to-index-requires
 co-to-index-requires c κs = ranges (c .before .before .before .args .cube) (c .before .before .before .pre .0) .1

@@ -1,4 +1,4 @@
--- `phase1::inner::end_phase1` meets its contract: at the head of the loop, what is left of the lengths answers as all of them did, and the path is as
+-- `phase1_steps::inner::end_phase1` meets its contract: at the head of the loop, what is left of the lengths answers as all of them did, and the path is as
 -- it came. The measure is the lengths left. Assumes nothing.
 use Prim.Native.Nat.{ℕ, _<_, _≤_, _-_}
 use mathlib.Core.Path.{_≡_, refl, sym, ap, subst, _∙_}
@@ -11,12 +11,12 @@ use Rattle.phase2.specs.Paths.{Holds, wordOf}
 use Rattle.phase2.specs.Second.{turns2, fars2, of2, run2}
 use Rattle.phase2.proofs.Facts.{word-open, word-ended, open2}
 use Rattle.phase2.proofs.Steps.{enter2-spends}
-use Rattle.phase1.specs.First.{under, Leaves1}
-use Rattle.phase1.proofs.Ends.{finish-full, finish-runs, same-word, both-left}
-use Rattle.phase1.proofs.Found.{gives1}
+use Rattle.phase1_steps.specs.First.{under, Leaves1}
+use Rattle.phase1_steps.proofs.Ends.{finish-full, finish-runs, same-word, both-left}
+use Rattle.phase1_steps.proofs.Found.{gives1}
 use borrow.Author.Needs.{needs}
-use Rattle.phase1.proofs.inner.end_phase1.Statement.{statement}
-use Rattle.phase1.proofs.inner.end_phase1.Tie as tie
+use Rattle.phase1_steps.proofs.inner.end_phase1.Statement.{statement}
+use Rattle.phase1_steps.proofs.inner.end_phase1.Tie as tie
 
 abbrev Inv-loop : tie.InvT-loop
 Inv-loop moves prunes cube limit last n one two₀ left x top rest₀ d₀ two rest d =

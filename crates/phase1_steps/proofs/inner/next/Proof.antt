@@ -1,11 +1,11 @@
--- `phase1::inner::next` meets its contract: three tests, one after the other. Assumes nothing.
+-- `phase1_steps::inner::next` meets its contract: three tests, one after the other. Assumes nothing.
 use Rattle.phase2.specs.Rules.{phase1}
 use Rattle.phase2.proofs.Facts.{below-yes, above-a, above-b, above-c, turns-as}
-use Rattle.phase1.specs.First.{turned1}
-use Rattle.phase1.proofs.Found.{go1-is}
+use Rattle.phase1_steps.specs.First.{turned1}
+use Rattle.phase1_steps.proofs.Found.{go1-is}
 use borrow.Author.Needs.{needs}
-use Rattle.phase1.proofs.inner.next.Statement.{statement}
-use Rattle.phase1.proofs.inner.next.Tie as tie
+use Rattle.phase1_steps.proofs.inner.next.Statement.{statement}
+use Rattle.phase1_steps.proofs.inner.next.Tie as tie
 
 returns : tie.Need-returns
 unfolding turned1

@@ -12,7 +12,7 @@ use Rattle.phase2.specs.Rules.{Turns, Fars, Coords, Ans, solved, nothing, spent
 use Rattle.phase2.specs.Paths.{Holds, wordOf}
 use Rattle.phase2.specs.Second.{coords2, run2, Leaves2}
 use Rattle.phase2.proofs.Path.{held-length, held-stored}
-use Rattle.phase1.specs.First.{under, fullOf, finish1, Leaves1}
+use Rattle.phase1_steps.specs.First.{under, fullOf, finish1, Leaves1}
 
 module _ (t : Turns) (f : Fars) (cube : CubieCube) (limit last : ℕ) {path : List ℕ} {n : ℕ} (hold : Holds path n) (le : n ≤ 31) (s : ℕ) where
   finish-by : (b : Bool) → fullOf limit n ≡ b

@@ -1,12 +1,12 @@
--- `phase1::inner::prune` meets its contract: the entries of the two tables, and the larger of them. Assumes nothing.
+-- `phase1_steps::inner::prune` meets its contract: the entries of the two tables, and the larger of them. Assumes nothing.
 use Prim.Native.Nat.{_+_, _*_}
 use mathlib.Core.Path.{sym, ap, _∙_}
 use native.Mathlib.Omega.{arith}
 use lib.Dec.{ltb}
-use Rattle.phase1.proofs.Found.{cut1-is}
+use Rattle.phase1_steps.proofs.Found.{cut1-is}
 use borrow.Author.Needs.{needs}
-use Rattle.phase1.proofs.inner.prune.Statement.{statement}
-use Rattle.phase1.proofs.inner.prune.Tie as tie
+use Rattle.phase1_steps.proofs.inner.prune.Statement.{statement}
+use Rattle.phase1_steps.proofs.inner.prune.Tie as tie
 
 cast-p-2 : tie.Need-cast-p-2
 cast-p-2 c =

@@ -1,4 +1,4 @@
--- `phase1::inner::start_phase2` meets its contract: the position of the cube after the moves that the path holds. Assumes nothing.
+-- `phase1_steps::inner::start_phase2` meets its contract: the position of the cube after the moves that the path holds. Assumes nothing.
 use mathlib.Core.Path.{_≡_, sym, ap, subst, _∙_}
 use lib.ListN.{take}
 use Rattle.cubie.specs.Cube.{refusalOf, applyMoves}
@@ -6,8 +6,8 @@ use Rattle.cubie.specs.declared.CubieCube.{CubieCube}
 use Rattle.phase2.specs.Second.{coords2}
 use Rattle.phase2.proofs.Path.{held-length}
 use borrow.Author.Needs.{needs}
-use Rattle.phase1.proofs.inner.start_phase2.Statement.{statement}
-use Rattle.phase1.proofs.inner.start_phase2.Tie as tie
+use Rattle.phase1_steps.proofs.inner.start_phase2.Statement.{statement}
+use Rattle.phase1_steps.proofs.inner.start_phase2.Tie as tie
 
 slice-aggregate-apply-moves : tie.Need-slice-aggregate-apply-moves
 slice-aggregate-apply-moves c = sym (held-length (c .before .before .before .before .pre .1) (c .before .before .before .before .pre .0 .0))
