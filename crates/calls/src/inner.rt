@@ -2,8 +2,8 @@
 ghost use mathlib.Core.Path.{_≡_};
 ghost use lib.ListN.{length};
 ghost use Rattle.calls.specs.Calls.{Leaves, cubeLeft, answerLeft, numberLeft};
+use cube_bytes::inner::put_cube;
 use cubie::CubeAnswer;
-use cubie::inner::put_cube;
 use moves::Answer;
 use moves::Number;
 use moves::Verdict;

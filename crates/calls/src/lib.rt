@@ -3,7 +3,7 @@
 ghost use mathlib.Core.Path.{_≡_};
 ghost use Rattle.calls.specs.Calls.{Leaves, mulCall, moveCall, movesCall, solvedCall, solvableCall, countsCall, inverseMoveCall, ofTwoCall};
 ghost use Rattle.moves.specs.Moves.{isInverse, isSameLayer, isAvailable};
-use cubie::inner::cube_of;
+use cube_bytes::inner::cube_of;
 
 pub mod inner;
 

@@ -1,10 +1,10 @@
 // What other crates call without the tests of the public functions. A cube is in range where its refusal is 0.
 ghost use mathlib.Core.Path.{_≡_};
 ghost use Prim.Native.Nat.{_<_};
-ghost use lib.ListN.{length, getD};
+ghost use lib.ListN.{getD};
 ghost use Rattle.base.specs.Lists.{Under};
 ghost use Rattle.cubie.specs.Answers.{refusalWith};
-ghost use Rattle.cubie.specs.Cube.{refusalOf, bytesOf, cubeOf, product, solvedCube, quarterTurns, moveOf, turn, applyMoves, isHome};
+ghost use Rattle.cubie.specs.Cube.{refusalOf, product, solvedCube, quarterTurns, moveOf, turn, applyMoves, isHome};
 ghost use Rattle.cubie.specs.Solvable.{cornerTwist, edgeTwist, cornerPerm, edgePerm, solvable};
 use crate::CubeAnswer;
 use crate::CubieCube;
@@ -16,14 +16,16 @@ use crate::quarters::L_MOVE;
 use crate::quarters::R_MOVE;
 use crate::quarters::U_MOVE;
 use moves::Verdict;
-use pieces::inner::all_differ;
-use pieces::inner::copy_in;
+use parts::inner::none_twice;
+use parts::inner::permute_corners;
+use parts::inner::permute_edges;
+use parts::inner::range_refusal;
+use parts::inner::same_corners;
+use parts::inner::same_edges;
+use parts::inner::twist_corners;
+use parts::inner::twist_edges;
 use pieces::inner::count_swaps;
 use pieces::inner::count_turns;
-use pieces::inner::in_range;
-use pieces::inner::permute;
-use pieces::inner::same_bytes;
-use pieces::inner::twist;
 
 // A refusal, with the solved cube beside it.
 pub fn cube_refused(refusal: u8) -> CubeAnswer
@@ -40,53 +42,10 @@ pub fn refusal(c: CubieCube) -> u8
     ensures { λ r. ⌜ r ≡ refusalOf c ⌝ }
 {
     let cp = c.cp;
-    if !in_range(&cp, 8) {
-        return 4;
-    }
-    let ep = c.ep;
-    if !in_range(&ep, 12) {
-        return 5;
-    }
     let co = c.co;
-    if !in_range(&co, 3) {
-        return 6;
-    }
-    let eo = c.eo;
-    if !in_range(&eo, 2) {
-        return 6;
-    }
-    0
-}
-
-// The 40 bytes of a cube.
-pub fn put_cube(c: CubieCube, out: &mut [u8])
-    requires { ⌜ length (now out) ≡ 40 ⌝ }
-    ensures { λ r. ⌜ now (out .exit) ≡ bytesOf c ⌝ }
-{
-    let cp = c.cp;
-    copy_in(&cp, out, 0);
-    let co = c.co;
-    copy_in(&co, out, 8);
     let ep = c.ep;
-    copy_in(&ep, out, 16);
     let eo = c.eo;
-    copy_in(&eo, out, 28);
-}
-
-// A cube from its 40 bytes.
-pub fn cube_of(s: &[u8]) -> CubieCube
-    requires { ⌜ length (now s) ≡ 40 ⌝ }
-    ensures { λ r. ⌜ r ≡ cubeOf (now (s .entry)) ⌝ }
-{
-    let mut cp = [0u8; 8];
-    let mut co = [0u8; 8];
-    let mut ep = [0u8; 12];
-    let mut eo = [0u8; 12];
-    copy_in(&s[0..8], &mut cp, 0);
-    copy_in(&s[8..16], &mut co, 0);
-    copy_in(&s[16..28], &mut ep, 0);
-    copy_in(&s[28..40], &mut eo, 0);
-    CubieCube { cp, co, ep, eo }
+    range_refusal(cp, co, ep, eo)
 }
 
 // The product, as `Mul` has it.
@@ -102,14 +61,10 @@ pub fn mul(a: CubieCube, b: CubieCube) -> CubieCube
     let bco = b.co;
     let bep = b.ep;
     let beo = b.eo;
-    let mut cp = [0u8; 8];
-    let mut co = [0u8; 8];
-    let mut ep = [0u8; 12];
-    let mut eo = [0u8; 12];
-    permute(&acp, &bcp, &mut cp);
-    twist(&aco, &bcp, &bco, 3, &mut co);
-    permute(&aep, &bep, &mut ep);
-    twist(&aeo, &bep, &beo, 2, &mut eo);
+    let cp = permute_corners(acp, bcp);
+    let co = twist_corners(aco, bcp, bco);
+    let ep = permute_edges(aep, bep);
+    let eo = twist_edges(aeo, bep, beo);
     CubieCube { cp, co, ep, eo }
 }
 
@@ -169,23 +124,17 @@ pub fn is_solved(c: CubieCube) -> bool
 {
     let home = SOLVED_CUBIE_CUBE;
     let cp = c.cp;
-    let home_cp = home.cp;
-    if !same_bytes(&cp, &home_cp) {
-        return false;
-    }
     let co = c.co;
+    let home_cp = home.cp;
     let home_co = home.co;
-    if !same_bytes(&co, &home_co) {
+    if !same_corners(cp, co, home_cp, home_co) {
         return false;
     }
     let ep = c.ep;
-    let home_ep = home.ep;
-    if !same_bytes(&ep, &home_ep) {
-        return false;
-    }
     let eo = c.eo;
+    let home_ep = home.ep;
     let home_eo = home.eo;
-    same_bytes(&eo, &home_eo)
+    same_edges(ep, eo, home_ep, home_eo)
 }
 
 pub fn count_corner_twist(c: CubieCube) -> u8
@@ -223,11 +172,8 @@ pub fn is_solvable(c: CubieCube) -> bool
     ensures { λ r. ⌜ r ≡ solvable c ⌝ }
 {
     let cp = c.cp;
-    if !all_differ(&cp) {
-        return false;
-    }
     let ep = c.ep;
-    if !all_differ(&ep) {
+    if !none_twice(cp, ep) {
         return false;
     }
     if count_corner_perm(c) % 2 != count_edge_perm(c) % 2 {

@@ -2,7 +2,7 @@
 ghost use mathlib.Core.Path.{_≡_};
 ghost use Rattle.solver.specs.Solve.{HasMoves};
 ghost use Rattle.search_calls.specs.Calls.{packed, solveNumber, firstLeft, secondLeft};
-use cubie::inner::cube_of;
+use cube_bytes::inner::cube_of;
 use pieces::inner::copy_in;
 use solver::Found;
 use solver::Solution;

@@ -10,6 +10,7 @@ ghost use Rattle.pruning_table.specs.Check.{Blocks};
 ghost use Rattle.phase2.specs.Second.{turns2, fars2};
 ghost use Rattle.phase1_steps.specs.First.{turns1, fars1, coords1, tableSolve};
 ghost use Rattle.solver.specs.Solve.{noLists, answerOf, HasMoves, ReadOff, solves, checked, searchRefusal, solveOf};
+use cube_bytes::inner::put_cube;
 use cubie::CubieCube;
 use cubie::inner;
 use move_table::MOVES_LEN;
@@ -91,7 +92,7 @@ fn bytes_of(cube: CubieCube) -> [u8; 40]
     ensures { λ r. ⌜ cubeOf r ≡ cube ⌝ }
 {
     let mut bytes = [0u8; 40];
-    inner::put_cube(cube, &mut bytes);
+    put_cube(cube, &mut bytes);
     bytes
 }
 

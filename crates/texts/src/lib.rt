@@ -61,7 +61,7 @@ pub fn picture(cube: &[u8], out: &mut [u8]) -> u8
     if out.len() != 54 {
         return 10;
     }
-    leave_face(facelet::picture(cubie::inner::cube_of(cube)), out)
+    leave_face(facelet::picture(cube_bytes::inner::cube_of(cube)), out)
 }
 
 // The moves of a text, in the first places of `list`, and how many they are.

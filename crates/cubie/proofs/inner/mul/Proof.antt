@@ -1,7 +1,7 @@
 -- `cubie::inner::mul` meets its contract. Assumes nothing.
-use mathlib.Core.Path.{_≡_, sym, subst}
+use mathlib.Core.Path.{_≡_}
+use mathlib.Core.List.{List}
 use Prim.Native.Nat.{ℕ}
-use native.Mathlib.Omega.{arith}
 use lib.ListN.{length}
 use Rattle.base.specs.Lists.{Under}
 use Rattle.cubie.specs.Cube.{product}
@@ -10,68 +10,39 @@ use borrow.Author.Needs.{needs}
 use Rattle.cubie.proofs.inner.mul.Statement.{statement}
 use Rattle.cubie.proofs.inner.mul.Tie as tie
 
-permute-requires : tie.Need-permute-requires
-permute-requires c κs =
-    let a = c .before .before .before .before .before .before .before .before .before .before .before .args in
-    let l : length (a .a .cp) ≡ 8 = search needs in
-    (search needs, subst (λ (n : ℕ). Under n (a .b .cp)) (sym l) (ranges (a .b) (c .before .before .before .before .before .before .before .before .before .before .before .pre .1) .0))
+names : (n : ℕ) (p q : List ℕ) → length p ≡ n → Under n q → Under (length p) q
+names n p q e u = rw e u
 
-twist-requires : tie.Need-twist-requires
-twist-requires c κs =
-    let a = c .before .before .before .before .before .before .before .before .before .before .before .before .before .before .before .before .before .args in
-    let g = c .before .before .before .before .before .before .before .before .before .before .before .before .before .before .before .before .before .good in
-    let l : length (a .a .co) ≡ 8 = search needs in
-    let r = ranges (a .b) (c .before .before .before .before .before .before .before .before .before .before .before .before .before .before .before .before .before .pre .1) in
-    ((search needs, search needs), (subst (λ (n : ℕ). Under n (a .b .cp)) (sym l) (r .0), (ranges (a .a) (c .before .before .before .before .before .before .before .before .before .before .before .before .before .before .before .before .before .pre .0) .1, r .1, omega arith, omega arith)))
+permute-corners-requires : tie.Need-permute-corners-requires
+permute-corners-requires c κs =
+    let s = c .before .before .before .before .before .before .before .before in
+    let b = s .args .b in
+    names 8 (s .args .a .cp) (b .cp) (search needs) (ranges b (s .pre .1) .0)
 
-permute-requires-2 : tie.Need-permute-requires-2
-permute-requires-2 c κs =
-    let a = c .before .before .before .before .before .before .before .before .before .before .before .before .before .before .before .before .before .before .before .before .before .before .args in
-    let g = c .before .before .before .before .before .before .before .before .before .before .before .before .before .before .before .before .before .before .before .before .before .before .good in
-    let l : length (a .a .ep) ≡ 12 = search needs in
-    (search needs, subst (λ (n : ℕ). Under n (a .b .ep)) (sym l) (ranges (a .b) (c .before .before .before .before .before .before .before .before .before .before .before .before .before .before .before .before .before .before .before .before .before .before .pre .1) .2))
+twist-corners-requires : tie.Need-twist-corners-requires
+twist-corners-requires c κs =
+    let s = c .before .before .before .before .before .before .before .before .before in
+    let b = s .args .b in
+    let r = ranges b (s .pre .1) in
+    (names 8 (s .args .a .co) (b .cp) (search needs) (r .0), ranges (s .args .a) (s .pre .0) .1, r .1)
 
-slice-aggregate-twist-5 : tie.Need-slice-aggregate-twist-5
-slice-aggregate-twist-5 c = let g = c .before .before .before .before .before .before .before .before .before .before .before .before .before .before .before .before .before .before .before .before .before .before .before .before .before .good in search needs
+permute-edges-requires : tie.Need-permute-edges-requires
+permute-edges-requires c κs =
+    let s = c .before .before .before .before .before .before .before .before .before .before in
+    let b = s .args .b in
+    names 12 (s .args .a .ep) (b .ep) (search needs) (ranges b (s .pre .1) .2)
 
-slice-aggregate-twist-6 : tie.Need-slice-aggregate-twist-6
-slice-aggregate-twist-6 c = let g = c .before .before .before .before .before .before .before .before .before .before .before .before .before .before .before .before .before .before .before .before .before .before .before .before .before .before .good in search needs
-
-slice-aggregate-twist-7 : tie.Need-slice-aggregate-twist-7
-slice-aggregate-twist-7 c = let g = c .before .before .before .before .before .before .before .before .before .before .before .before .before .before .before .before .before .before .before .before .before .before .before .before .before .before .before .good in search needs
-
-twist-requires-2 : tie.Need-twist-requires-2
-twist-requires-2 c κs =
-    let a = c .before .before .before .before .before .before .before .before .before .before .before .before .before .before .before .before .before .before .before .before .before .before .before .before .before .before .before .before .args in
-    let g = c .before .before .before .before .before .before .before .before .before .before .before .before .before .before .before .before .before .before .before .before .before .before .before .before .before .before .before .before .good in
-    let l : length (a .a .eo) ≡ 12 = search needs in
-    let r = ranges (a .b) (c .before .before .before .before .before .before .before .before .before .before .before .before .before .before .before .before .before .before .before .before .before .before .before .before .before .before .before .before .pre .1) in
-    ((search needs, search needs), (subst (λ (n : ℕ). Under n (a .b .ep)) (sym l) (r .2), (ranges (a .a) (c .before .before .before .before .before .before .before .before .before .before .before .before .before .before .before .before .before .before .before .before .before .before .before .before .before .before .before .before .pre .0) .3, r .3, omega arith, omega arith)))
+twist-edges-requires : tie.Need-twist-edges-requires
+twist-edges-requires c κs =
+    let s = c .before .before .before .before .before .before .before .before .before .before .before in
+    let b = s .args .b in
+    let r = ranges b (s .pre .1) in
+    (names 12 (s .args .a .eo) (b .ep) (search needs) (r .2), ranges (s .args .a) (s .pre .0) .3, r .3)
 
 returns : tie.Need-returns
 unfolding product
-returns c = λ i. record { cp = c .before .before .before .before .before .before .before .before .before .before .before .before .before .before .before .before .before .before .permute .ensures i; co = c .before .before .before .before .before .before .before .before .before .before .before .before .twist .ensures i; ep = c .before .before .before .before .before .before .before .permute2 .ensures i; eo = c .before .twist2 .ensures i }
+returns c =
+    λ i. record { cp = c .before .before .before .permute-corners .ensures i; co = c .before .before .twist-corners .ensures i; ep = c .before .permute-edges .ensures i; eo = c .twist-edges .ensures i }
 
 pub mul-spec : {M : Type 1} → statement M
-mul-spec =
-    tie.close
-    (tie.spec
-    (λ c. search needs)
-    (λ c. search needs)
-    (λ c. search needs)
-    permute-requires
-    (λ c. search needs)
-    (λ c. search needs)
-    (λ c. search needs)
-    (λ c. search needs)
-    twist-requires
-    (λ c. search needs)
-    (λ c. search needs)
-    (λ c. search needs)
-    permute-requires-2
-    slice-aggregate-twist-5
-    slice-aggregate-twist-6
-    slice-aggregate-twist-7
-    (λ c. search needs)
-    twist-requires-2
-    returns)
+mul-spec = tie.close (tie.spec permute-corners-requires twist-corners-requires permute-edges-requires twist-edges-requires returns)

@@ -1,4 +1,4 @@
--- `cubie::inner::cube_of` meets its contract. Assumes nothing.
+-- `cube_bytes::inner::cube_of` meets its contract. Assumes nothing.
 use mathlib.Core.Path.{_≡_, _∙_}
 use native.Mathlib.Omega.{arith}
 use denote.Ref.{now}
@@ -6,8 +6,8 @@ use lib.ListN.{length, take, drop, replicate, length-drop}
 use lib.Seq.{length-take-le}
 use Rattle.base.proofs.Steps.{paste-whole}
 use borrow.Author.Needs.{needs}
-use Rattle.cubie.proofs.inner.cube_of.Statement.{statement}
-use Rattle.cubie.proofs.inner.cube_of.Tie as tie
+use Rattle.cube_bytes.proofs.inner.cube_of.Statement.{statement}
+use Rattle.cube_bytes.proofs.inner.cube_of.Tie as tie
 
 returns : tie.Need-returns
 returns c =

@@ -1,4 +1,4 @@
--- `cubie::inner::put_cube` meets its contract: each part stands behind those before it. Assumes nothing.
+-- `cube_bytes::inner::put_cube` meets its contract: each part stands behind those before it. Assumes nothing.
 use mathlib.Core.Path.{_≡_, refl, sym, ap, _∙_}
 use mathlib.Core.List.{List, [], _++_, append-nil}
 use Prim.Native.Nat.{ℕ, _+_, _≤_}
@@ -6,10 +6,10 @@ use native.Mathlib.Omega.{arith}
 use denote.Ref.{now}
 use lib.ListN.{length, drop, length-append, drop-of-length-le}
 use Rattle.base.proofs.Steps.{paste-next}
 use Rattle.cubie.specs.Cube.{bytesOf}
 use borrow.Author.Needs.{needs}
-use Rattle.cubie.proofs.inner.put_cube.Statement.{statement}
-use Rattle.cubie.proofs.inner.put_cube.Tie as tie
+use Rattle.cube_bytes.proofs.inner.put_cube.Statement.{statement}
+use Rattle.cube_bytes.proofs.inner.put_cube.Tie as tie
 
 copy-in-requires : tie.Need-copy-in-requires
 copy-in-requires c κs =

@@ -1,0 +1,2 @@
+// A cube as the 40 bytes of a call.
+pub mod inner;
