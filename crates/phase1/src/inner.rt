@@ -10,19 +10,7 @@ ghost use Rattle.cubie.specs.Cube.{refusalOf, cubeOf};
 ghost use Rattle.pruning_table.specs.Check.{Blocks};
 ghost use Rattle.phase2.specs.Rules.{Below, phase1, at, cutAtOnce};
 ghost use Rattle.phase2.specs.Paths.{Holds};
-<<<<<<< HEAD
 ghost use Rattle.phase1_steps.specs.First.{fars1, of1, coords, search1, Gives1};
-=======
-ghost use Rattle.phase2.specs.Second.{turns2, fars2, of2, coords2};
-ghost use Rattle.phase1.specs.First.{turns1, fars1, of1, coords, coords1, turned1, fullOf, finish1, search1, Gives1};
-use crate::Phase1State;
-use crate::Turned;
-use cube_bytes::inner::cube_of;
-use cubie::CubieCube;
-use cubie::inner::apply_moves;
-use move_table::E_COMBO_AT;
-use move_table::EO_AT;
->>>>>>> 9c67033 (cubie: the product by corners and edges in the crate parts; cube_bytes: a cube's 40 bytes)
 use moves::NO_MOVE;
 use moves::inner::first_column;
 use moves::inner::other_columns;
