@@ -29,6 +29,7 @@ range-in j m k i = each_in (λ (h : ℕ). h < m + k) i (range-under m k (m + k) 
 
 module _ {A S : Type 0} where
   pub says-ended : {P : A → Type 0} {q : Res A S} → Says P q → Ended q → Is P q
+  says-ended {P = P} (silent {s = s}) e = elim e [ ]
   says-ended (says h) e = is h
 
   pub says_any : (q : Res A S) → Says (λ a. Unit {0}) q

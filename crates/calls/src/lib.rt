@@ -1,5 +1,7 @@
 // Cubes and moves on lent bytes: each function returns the paper's number, 0 for none, and writes into lent bytes, which a refusal
 // leaves as they were. A lent slice of another length than is said is refused with 10, before all else.
+#![tactic(auto)]
+
 ghost use Rattle.calls.specs.Calls.{Leaves, inverse_move_call, of_two_call};
 ghost use Rattle.moves.specs.Moves.{is_inverse, is_same_layer, is_available};
 

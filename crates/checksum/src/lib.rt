@@ -1,4 +1,6 @@
 // The check sums of tables, FNV-1a of 64 bits, and the greatest entry of a table.
+#![tactic(auto)]
+
 ghost use Rattle.std.specs.Prelude.{◌≡◌};
 ghost use Rattle.checksum.specs.Sum.{fnv_step, fnv, bytes16, greatest_of};
 

@@ -1,4 +1,5 @@
 // The moves as columns of the tables, and the sets of columns that may follow a move.
+#![tactic(auto)]
 
 pub mod inner;
 

@@ -1,4 +1,6 @@
 // The seven coordinates by their numbers, on lent memory, for the C interface: 0 co, 1 eo, 2 e_combo, 3 cp, 4 ud_ep, 5 e_ep, 6 ep.
+#![tactic(auto)]
+
 ghost use Rattle.std.specs.Prelude.{◌≡◌, ◌<◌, length};
 ghost use Rattle.base.specs.Lists.{pick};
 ghost use Rattle.index.specs.Answers.{corners, edges};
@@ -12,7 +14,7 @@ use numbering::{Co, Cp, ECombo, EEp, Eo, UdEp};
 use pieces::inner::copy_in;
 
 // A coordinate's number, or a refusal.
-#[derive(Drop)]
+#[derive(Clone, Copy)]
 pub enum Found {
     At(u32),
     Refused(u8),

@@ -1,2 +1,4 @@
 // A cube as the 40 bytes of a call.
+#![tactic(auto)]
+
 pub mod inner;

@@ -1,4 +1,6 @@
 // Cubes in lent memory: product, moves, tests and counts.
+#![tactic(auto)]
+
 ghost use Rattle.calls.specs.Calls.{Leaves, mul_call, move_call, moves_call, solved_call, solvable_call, counts_call};
 
 use cube_bytes::inner::cube_of;

@@ -1,4 +1,6 @@
 // The cube on the cubie level: kewb's src/cube/cubie.rs. The quarter turns of src/cube/moves.rs stand in `quarters`.
+#![tactic(auto)]
+
 ghost use Rattle.std.specs.Prelude.{◌≡◌};
 ghost use Rattle.cubie.specs.Answers.{mul_answer, move_answer, moves_answer, solved_answer, solvable_answer};
 ghost use Rattle.cubie.specs.Answers.{corner_twist_answer, edge_twist_answer, corner_perm_answer, edge_perm_answer};
@@ -11,7 +13,7 @@ pub mod inner;
 pub mod quarters;
 
 // Which corner and which edge stands at each place, and how each is twisted or flipped.
-#[derive(Drop)]
+#[derive(Clone, Copy)]
 pub struct CubieCube {
     pub cp: [u8; 8],
     pub co: [u8; 8],
@@ -27,7 +29,7 @@ pub const SOLVED_CUBIE_CUBE: CubieCube = CubieCube {
 };
 
 // A cube, or a refusal with the solved cube beside it.
-#[derive(Drop)]
+#[derive(Clone, Copy)]
 pub struct CubeAnswer {
     pub verdict: Verdict,
     pub cube: CubieCube,

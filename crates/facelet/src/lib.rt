@@ -1,4 +1,6 @@
 // The stickers of a cube: kewb's src/cube/facelet.rs, and the reader of cubie.rs.
+#![tactic(auto)]
+
 ghost use Rattle.std.specs.Prelude.{◌≡◌};
 ghost use Rattle.stickers.specs.Picture.{face_refusal, picture_answer};
 ghost use Rattle.stickers.specs.Reader.{read_plain, read_strict};

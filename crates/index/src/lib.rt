@@ -1,4 +1,6 @@
 // The coordinates: kewb's src/cube/index.rs, but for those of the cross and of the first two layers.
+#![tactic(auto)]
+
 ghost use Rattle.std.specs.Prelude.{◌≡◌};
 ghost use Rattle.index.specs.Answers.{co_answer, eo_answer, e_combo_answer, cp_answer, ud_ep_answer, e_ep_answer, ep_answer};
 ghost use Rattle.index.specs.Answers.{corners, edges};
@@ -8,56 +10,56 @@ use numbering::{Co, Cp, ECombo, EEp, Eo, UdEp};
 use pieces::inner::in_range;
 
 // A coordinate, or a refusal by its number.
-#[derive(Drop)]
+#[derive(Clone, Copy)]
 pub enum CoIndex {
     At(Co),
     Refused(u8),
 }
 
-#[derive(Drop)]
+#[derive(Clone, Copy)]
 pub enum EoIndex {
     At(Eo),
     Refused(u8),
 }
 
-#[derive(Drop)]
+#[derive(Clone, Copy)]
 pub enum EComboIndex {
     At(ECombo),
     Refused(u8),
 }
 
-#[derive(Drop)]
+#[derive(Clone, Copy)]
 pub enum CpIndex {
     At(Cp),
     Refused(u8),
 }
 
-#[derive(Drop)]
+#[derive(Clone, Copy)]
 pub enum UdEpIndex {
     At(UdEp),
     Refused(u8),
 }
 
-#[derive(Drop)]
+#[derive(Clone, Copy)]
 pub enum EEpIndex {
     At(EEp),
     Refused(u8),
 }
 
-#[derive(Drop)]
+#[derive(Clone, Copy)]
 pub enum EpIndex {
     At(u32),
     Refused(u8),
 }
 
 // An arrangement of the eight corners' or the twelve edges' places, or a refusal with 0s beside it.
-#[derive(Drop)]
+#[derive(Clone, Copy)]
 pub struct Corners {
     pub verdict: Verdict,
     pub places: [u8; 8],
 }
 
-#[derive(Drop)]
+#[derive(Clone, Copy)]
 pub struct Edges {
     pub verdict: Verdict,
     pub places: [u8; 12],

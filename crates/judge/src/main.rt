@@ -1,4 +1,5 @@
 // Do these moves solve this cube? Standard input holds a line of 54 stickers and a line of moves; what is printed is `judgement::judge`'s.
+#![tactic(auto)]
 
 // One byte more than is taken, so that a longer input shows.
 fn room() -> [u8; 1025] {

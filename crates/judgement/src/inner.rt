@@ -83,7 +83,7 @@ pub fn score(input: &[u8]) -> Score
     if input.len() > 1024 {
         return refused(10);
     }
-    let end = bytes::scan::find(input, 0, input.len(), b'\n');
+    let end = lines::inner::find(input, b'\n');
     let read = facelet::read_strict(&input[..end]);
     let verdict = read.verdict;
     match verdict {

@@ -1,11 +1,13 @@
 // Do these moves solve this cube? What the program `judge` prints, from the bytes that it reads.
+#![tactic(auto)]
+
 ghost use Rattle.std.specs.Prelude.{◌≡◌};
 ghost use Rattle.judgement.specs.Judge.{printed};
 
 pub mod inner;
 
 // What the moves do to the cube, or a refusal by its number; 0 is none.
-#[derive(Drop)]
+#[derive(Clone, Copy)]
 pub struct Score {
     pub refusal: u8,
     pub moves: usize,
@@ -14,7 +16,7 @@ pub struct Score {
 }
 
 // A text and its length.
-#[derive(Drop)]
+#[derive(Clone, Copy)]
 pub struct Printed {
     pub text: [u8; 64],
     pub len: usize,

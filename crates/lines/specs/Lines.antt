@@ -1,7 +1,11 @@
 -- Lines as bytes: the first line of a text, numbers in decimal, and a word with a number. LF is 10. Assumes nothing: these are definitions.
-use Rattle.std.specs.Prelude.{List, [], ◌∷◌, ◌++◌, ℕ, zero, suc, ◌+◌, ◌/◌, ◌%◌, ltb, take, drop}
+use Rattle.std.specs.Prelude.{List, [], ◌∷◌, ◌++◌, ℕ, zero, suc, ◌+◌, ◌/◌, ◌%◌, eqb, ltb, take, drop}
 use Rattle.base.specs.Lists.{pick}
-use Rattle.bytes.specs.Bytes.{index_of}
+
+-- how many bytes stand before the first b; all of them, where there is none
+unfoldable pub index_of : ℕ → List ℕ → ℕ
+index_of b [] = 0
+index_of b (x ∷ xs) = pick (eqb x b) 0 (suc (index_of b xs))
 
 -- what stands before the first LF, and "the rest after the first LF"; all of it and nothing, where there is no LF
 abbrev pub first_line : List ℕ → List ℕ

@@ -1,7 +1,21 @@
 // What the programs' texts are read and written with, each with what its caller must show.
 ghost use Rattle.std.specs.Prelude.{◌≡◌, ◌+◌, ◌≤◌, length, drop};
 ghost use Rattle.words.specs.Answers.{over};
-ghost use Rattle.lines.specs.Lines.{decimal, line};
+ghost use Rattle.lines.specs.Lines.{decimal, index_of, line};
+
+// The index of the first byte `b`, or the length where there is none.
+pub fn find(s: &[u8], b: u8) -> usize
+    ensures { result ≡ index_of b s.now }
+{
+    let mut i = 0;
+    while i < s.len() {
+        if s[i] == b {
+            return i;
+        }
+        i += 1;
+    }
+    i
+}
 
 // Where the text after a line starts, if the line ends at `end`.
 pub fn text_start(input: &[u8], end: usize) -> usize

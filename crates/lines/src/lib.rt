@@ -1,4 +1,6 @@
 // Lines as bytes: the first line of a text, and words and numbers written one behind the other.
+#![tactic(auto)]
+
 pub mod inner;
 
 // Words that more than one program writes.

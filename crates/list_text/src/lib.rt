@@ -1,2 +1,4 @@
 // Lists of moves as text, one space between.
+#![tactic(auto)]
+
 pub mod inner;

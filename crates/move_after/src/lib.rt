@@ -1,2 +1,4 @@
 // The coordinate of an arrangement after a move.
+#![tactic(auto)]
+
 pub mod inner;

@@ -1,4 +1,5 @@
 // The six move tables: kewb's src/two_phase/moves.rs.
+#![tactic(auto)]
 
 pub mod inner;
 

@@ -1,4 +1,6 @@
 // The six move tables by name, and all of them in their block.
+#![tactic(auto)]
+
 ghost use Rattle.std.specs.Prelude.{◌≡◌};
 ghost use Rattle.move_table.specs.Layout.{move_block, sized_verdict, built};
 ghost use Rattle.move_row.specs.Tables.{table_at, true_table};

@@ -1,4 +1,6 @@
 // The 18 moves by their numbers, as kewb's src/cube/moves.rs declares them: U U2 U3 D D2 D3 R R2 R3 L L2 L3 F F2 F3 B B2 B3.
+#![tactic(auto)]
+
 ghost use Rattle.std.specs.Prelude.{◌≡◌};
 ghost use Rattle.moves.specs.Answers.{of_two, inverse_move_answer};
 ghost use Rattle.moves.specs.Moves.{is_inverse, is_same_layer, is_available};
@@ -6,7 +8,7 @@ ghost use Rattle.moves.specs.Moves.{is_inverse, is_same_layer, is_available};
 pub mod inner;
 
 // Yes, no, or a refusal by its number.
-#[derive(Drop)]
+#[derive(Clone, Copy)]
 pub enum Answer {
     Yes,
     No,
@@ -14,13 +16,13 @@ pub enum Answer {
 }
 
 // A count or a move's number, or a refusal.
-#[derive(Drop)]
+#[derive(Clone, Copy)]
 pub enum Number {
     Is(u8),
     Refused(u8),
 }
 
-#[derive(Drop)]
+#[derive(Clone, Copy)]
 pub enum Verdict {
     Good,
     Refused(u8),

@@ -1,2 +1,4 @@
 // Twists and flips as numbers.
+#![tactic(auto)]
+
 pub mod inner;

@@ -1,9 +1,10 @@
 // A pruning table over any two move tables: the builder in kewb's src/two_phase/pruning.rs.
+#![tactic(auto)]
 
 pub mod inner;
 
 // What a builder of a pruning table answers.
-#[derive(Drop)]
+#[derive(Clone, Copy)]
 pub enum Built {
     Done,
     // 10: a lent slice has the wrong length

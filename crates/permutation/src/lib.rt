@@ -1,2 +1,4 @@
 // Orders of pieces as numbers.
+#![tactic(auto)]
+
 pub mod inner;

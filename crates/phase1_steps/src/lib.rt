@@ -1,10 +1,12 @@
 // What stands below the search of phase 1: Phase1State of kewb's src/two_phase/solver.rs, and what its solve_phase1 does at a position.
+#![tactic(auto)]
+
 use numbering::{Co, ECombo, Eo};
 
 pub mod inner;
 
 // A position of phase 1, and the move that led to it; 18 is no move yet. Eight bytes: it travels in one register.
-#[derive(Drop)]
+#[derive(Clone, Copy)]
 pub struct Phase1State {
     pub co: Co,
     pub eo: Eo,
@@ -13,7 +15,7 @@ pub struct Phase1State {
 }
 
 // The position after a move, or an entry of a table that is not below its coordinate's count.
-#[derive(Drop)]
+#[derive(Clone, Copy)]
 pub enum Turned {
     To(Phase1State),
     Refused,

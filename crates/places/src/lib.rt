@@ -1,4 +1,6 @@
 // The arrangement that each number stands for.
+#![tactic(auto)]
+
 ghost use Rattle.std.specs.Prelude.{◌≡◌};
 ghost use Rattle.index.specs.Answers.{corners, edges, corners_refused, edges_refused};
 ghost use Rattle.numbering.specs.Coordinates.{co_of, eo_of, e_combo_of, cp_of, ud_ep_of, e_ep_of, ep_of};

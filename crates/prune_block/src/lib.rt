@@ -1,4 +1,6 @@
 // All four pruning tables in their block.
+#![tactic(auto)]
+
 ghost use Rattle.pruning_table.specs.Block.{AllOutcome};
 
 use move_table::MOVES_LEN;

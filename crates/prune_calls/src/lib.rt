@@ -1,4 +1,6 @@
 // The builders of the pruning tables by the tables' numbers, on lent memory, for the C interface: each returns the paper's number.
+#![tactic(auto)]
+
 ghost use Rattle.std.specs.Prelude.{◌≡◌};
 ghost use Rattle.pair_table.specs.Answers.{number_of};
 ghost use Rattle.table_calls.specs.Calls.{PruneCall, PairsCall, PrunesCall};

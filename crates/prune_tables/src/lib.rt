@@ -1,4 +1,6 @@
 // The four pruning tables by name, and one at any counts.
+#![tactic(auto)]
+
 ghost use Rattle.pair_table.specs.Answers.{Outcome, AnyOutcome};
 
 use pair_table::Built;

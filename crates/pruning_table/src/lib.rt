@@ -1,4 +1,5 @@
 // The pruning tables: kewb's src/two_phase/pruning.rs.
+#![tactic(auto)]
 
 pub mod inner;
 

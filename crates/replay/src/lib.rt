@@ -1,4 +1,6 @@
 // What the programs replay_* share: a recorded case is a line of hex, and its parts are lengths and bytes.
+#![tactic(auto)]
+
 ghost use Rattle.std.specs.Prelude.{◌≡◌, min, length};
 ghost use Rattle.std.proofs.Math.Seq.{paste};
 ghost use Rattle.replay.specs.Record.{nibble_of, unhexed, fitting, part_at, Within};
@@ -42,7 +44,7 @@ pub fn unhex(text: &[u8], out: &mut [u8]) -> usize
 }
 
 // Where a part's bytes begin and end.
-#[derive(Drop)]
+#[derive(Clone, Copy)]
 pub struct Part {
     pub start: usize,
     pub end: usize,

@@ -1,5 +1,7 @@
 // Replays recorded answers of kewb about cubes, moves, stickers, move text, coordinates and the search, and says how many agree. Standard
 // input holds a case a line (oracle/README.md).
+#![tactic(auto)]
+
 ghost use Rattle.std.specs.Prelude.{◌≤◌};
 
 use replay::{part_at, unhex};
@@ -269,7 +271,7 @@ fn replay_all(text: &[u8], moves: &[u16], prunes: &[u8]) {
     let mut agreed: u64 = 0;
     let mut at = 0;
     while at < text.len() {
-        let end = bytes::scan::find(text, at, text.len(), b'\n');
+        let end = at + lines::inner::find(&text[at..], b'\n');
         let found = verdict(&text[at..end], moves, prunes);
         if found == 2 {
             tell_differs(agreed + 1, &text[at..end]);

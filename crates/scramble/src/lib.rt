@@ -1,4 +1,6 @@
 // Moves as text, and lists of moves: `FromStr` and `Display` of kewb's src/cube/moves.rs, and its src/cube/scramble.rs.
+#![tactic(auto)]
+
 ghost use Rattle.std.specs.Prelude.{[], ◌∷◌, ◌≡◌};
 ghost use Rattle.words.specs.Answers.{parsed_move, parsed_text, parsed_room, written_text, written_room};
 ghost use Rattle.words.specs.Text.{word_of, text_of};

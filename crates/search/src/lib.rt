@@ -1,9 +1,10 @@
 // The answers of a search, and the search over the lengths of phase 1.
+#![tactic(auto)]
 
 pub mod inner;
 
 // How a search came out.
-#[derive(Drop)]
+#[derive(Clone, Copy)]
 pub enum Found {
     Solved,
     Nothing,
@@ -12,7 +13,7 @@ pub enum Found {
 }
 
 // The answer, the entries made and, if solved, the two lists.
-#[derive(Drop)]
+#[derive(Clone, Copy)]
 pub struct Solution {
     pub found: Found,
     pub count: u32,

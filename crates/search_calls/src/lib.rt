@@ -1,4 +1,6 @@
 // The search on lent memory, for the C interface. A refusal may write nothing, and yet has a count: so all numbers come back in one.
+#![tactic(auto)]
+
 ghost use Rattle.std.specs.Prelude.{◌≡◌};
 ghost use Rattle.search.specs.Solve.{HasMoves};
 ghost use Rattle.search_calls.specs.Calls.{packed, solve_number, first_left, second_left};

@@ -1,4 +1,6 @@
 // What the program `solve` prints: the turns that solve a cube, and the cube unfolded, from the bytes that it reads.
+#![tactic(auto)]
+
 ghost use Rattle.std.specs.Prelude.{◌≡◌, ◌-◌, ◌≤◌, ◌<◌, ◌+◌, ltb, length, get_or};
 ghost use Rattle.base.specs.Lists.{pick, Under};
 ghost use Rattle.lines.specs.Lines.{line, refused_word};
@@ -8,16 +10,16 @@ ghost use Rattle.solution.specs.Drawing.{drawing, net_text};
 ghost use Rattle.solution.specs.Request.{amount_of, budget_text, limit_text, solution_text};
 ghost use Rattle.solution.specs.Text.{turns_line, count_lines, solved_text, answer_text, printed_as};
 
-use bytes::scan::find;
+
 use cubie::CubieCube;
-use lines::inner::{put_bytes, put_line, text_start};
+use lines::inner::{find, put_bytes, put_line, text_start};
 use lines::{MOVES, REFUSED, STROKES};
 use list_text::inner::put_spaced;
 use moves::Verdict;
 use search::Found;
 
 // A text and its length.
-#[derive(Drop)]
+#[derive(Clone, Copy)]
 pub struct Printed {
     pub text: [u8; 256],
     pub len: usize,
@@ -171,7 +173,7 @@ fn amount(text: &[u8], usual: u64) -> u64
 fn with_limit(cube: CubieCube, limit: u8, text: &[u8], moves: &[u16], prunes: &[u8]) -> Printed
     ensures { (result ≡ printed_as (budget_text cube limit text.now moves.now prunes.now)) × (result.len ≤ 256) }
 {
-    let end = find(text, 0, text.len(), b'\n');
+    let end = find(text, b'\n');
     let budget = amount(&text[..end], DEFAULT_BUDGET);
     if 4294967295 < budget {
         let word = BAD_BUDGET;
@@ -188,7 +190,7 @@ fn with_limit(cube: CubieCube, limit: u8, text: &[u8], moves: &[u16], prunes: &[
 fn with_cube(cube: CubieCube, text: &[u8], moves: &[u16], prunes: &[u8]) -> Printed
     ensures { (result ≡ printed_as (limit_text cube text.now moves.now prunes.now)) × (result.len ≤ 256) }
 {
-    let end = find(text, 0, text.len(), b'\n');
+    let end = find(text, b'\n');
     let limit = amount(&text[..end], 23);
     if 31 < limit {
         return print_refused(9);
@@ -205,7 +207,7 @@ pub fn solution(input: &[u8], moves: &[u16], prunes: &[u8]) -> Printed
     if 1024 < input.len() {
         return print_refused(10);
     }
-    let end = find(input, 0, input.len(), b'\n');
+    let end = find(input, b'\n');
     let read = facelet::read_strict(&input[..end]);
     let verdict = read.verdict;
     match verdict {
@@ -251,7 +253,7 @@ pub fn net(input: &[u8]) -> Printed
     if 1024 < input.len() {
         return print_refused(10);
     }
-    let end = find(input, 0, input.len(), b'\n');
+    let end = find(input, b'\n');
     if end != 54 {
         return print_refused(1);
     }

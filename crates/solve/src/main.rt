@@ -1,6 +1,8 @@
 // Turns that solve a cube. `solve` builds the ten tables, `solve FILE` reads them from FILE, as `tables` writes it; both check them. Then
 // standard input is read: a line of 54 stickers and, if wanted, a line with the limit and one with the budget. `solve net` reads standard
 // input too, and needs no tables. What is printed is that of `solution::solution` and `solution::net`.
+#![tactic(auto)]
+
 use libc::{STDIN_FILENO, STDOUT_FILENO};
 use solution::Printed;
 use table_io::inner::{good, none_refused, read_file};

@@ -1,4 +1,6 @@
 // The two-phase search: `Solver` of kewb's src/two_phase/solver.rs, with no timeout and fresh for each call.
+#![tactic(auto)]
+
 ghost use Rattle.std.specs.Prelude.{◌≡◌, ◌++◌};
 ghost use Rattle.base.specs.Lists.{Under};
 ghost use Rattle.cubie.specs.Cube.{refusal_of};

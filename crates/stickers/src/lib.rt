@@ -1,4 +1,6 @@
 // A cube as its 54 stickers: where each piece shows its colours.
+#![tactic(auto)]
+
 use moves::Verdict;
 
 pub mod inner;
@@ -62,7 +64,7 @@ pub const EDGE_COLOR: [u8; 24] = [
 ];
 
 // The 54 stickers of a cube, or a refusal with zeros beside it.
-#[derive(Drop)]
+#[derive(Clone, Copy)]
 pub struct FaceAnswer {
     pub verdict: Verdict,
     pub face: [u8; 54],

@@ -1,4 +1,6 @@
 // The builders of the move tables and the check of all ten, on lent memory, for the C interface: each returns the paper's number.
+#![tactic(auto)]
+
 ghost use Rattle.std.specs.Prelude.{◌≡◌};
 ghost use Rattle.table_calls.specs.Calls.{table_number, table_left, block_number, block_left, CheckCall};
 

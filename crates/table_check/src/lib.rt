@@ -1,4 +1,6 @@
 // The check of the ten tables, which kewb has not.
+#![tactic(auto)]
+
 ghost use Rattle.table_check.specs.Check.{Checks};
 
 use move_table::MOVES_LEN;
@@ -7,7 +9,7 @@ use pruning_table::PRUNES_LEN;
 pub mod inner;
 
 // What the check of all ten tables answers.
-#[derive(Drop)]
+#[derive(Clone, Copy)]
 pub enum Checked {
     Good,
     // 10: a block has the wrong length

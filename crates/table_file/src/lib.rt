@@ -1,4 +1,6 @@
 // The bytes of 16-bit entries, the low byte first, as a file of the tables holds them.
+#![tactic(auto)]
+
 ghost use Rattle.std.specs.Prelude.{◌≡◌, ◌*◌, eqb};
 ghost use Rattle.table_file.specs.File.{room_number, bytes_left, entries_left};
 

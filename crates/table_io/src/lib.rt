@@ -1,4 +1,6 @@
 // What the programs share that have the ten tables: both blocks built, or read from a file, and checked.
+#![tactic(auto)]
+
 ghost use Rattle.std.specs.Prelude.{◌≡◌};
 ghost use Rattle.table_calls.specs.Calls.{block_left};
 ghost use Rattle.table_io.specs.Both.{BuildCall};

@@ -1,5 +1,7 @@
 // The ten tables. `tables` builds them, prints a line for each and checks them; `tables FILE` also writes them to FILE;
 // `tables check FILE` reads such a file and checks it.
+#![tactic(auto)]
+
 use libc::STDOUT_FILENO;
 use std::num::wrapping_add_u64;
 use table_io::inner::{good, none_refused, part_of, read_file};

@@ -1,5 +1,7 @@
 // Stickers, move text and the judge on lent bytes: each function returns the paper's number, 0 for none, and writes into lent bytes,
 // which a refusal leaves as they were.
+#![tactic(auto)]
+
 ghost use Rattle.std.specs.Prelude.{◌≡◌, length};
 ghost use Rattle.calls.specs.Calls.{Leaves};
 ghost use Rattle.stickers.specs.Reader.{read_plain, read_strict};

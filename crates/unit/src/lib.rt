@@ -1,6 +1,8 @@
 // The C interface, for the trainer's firmware and for Rust: each function returns the paper's number, 0 for none, and writes into lent
 // bytes, which a refusal leaves as they were. A lent slice of another length than is said is refused with 10, before all else but a search's limit.
 // Each is the function of the same name in `calls`, `texts`, `coordinate`, `table_calls` or `search_calls`.
+#![tactic(auto)]
+
 ghost use Rattle.std.specs.Prelude.{◌≡◌};
 ghost use Rattle.calls.specs.Calls.{Leaves, mul_call, move_call, moves_call, solved_call, solvable_call, counts_call, inverse_move_call, of_two_call};
 ghost use Rattle.coordinate.specs.Calls.{index_number, index_left, arrange_number, arrange_left};
