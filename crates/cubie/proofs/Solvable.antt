@@ -84,4 +84,4 @@ turn-solvable r e m h = product-solvable r (move-range m h) e (below_true (λ k.
 pub list-solvable : {c : CubieCube} → InRange c → solvable c ≡ true → (l : List ℕ) → Under 18 l → solvable (apply_moves c l) ≡ true
 unfolding apply_moves
 list-solvable r e [] u = e
-list-solvable r e (m ∷ l) u = list-solvable (turn-range r m u.0) (turn-solvable r e m u.0) l u.1
+list-solvable {c = c} r e (m ∷ l) u = list-solvable {c = turn c m} (turn-range r m u.0) (turn-solvable r e m u.0) l u.1

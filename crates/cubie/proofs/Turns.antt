@@ -93,7 +93,7 @@ turn-range r m h = product-range r (move-range m h)
 pub moves-range : {c : CubieCube} → InRange c → (l : List ℕ) → Under 18 l → InRange (apply_moves c l)
 unfolding apply_moves
 moves-range r [] u = r
-moves-range r (m ∷ l) u = moves-range (turn-range r m u.0) l u.1
+moves-range {c = c} r (m ∷ l) u = moves-range {c = turn c m} (turn-range r m u.0) l u.1
 
 -- ---- a move is its quarter turn taken one, two or three times
 
@@ -139,9 +139,9 @@ inverse-undoes {c} r m h =
 pub moves-product : {c : CubieCube} → InRange c → (l : List ℕ) → Under 18 l → apply_moves c l ≡ product c (apply_moves solved_cube l)
 unfolding apply_moves
 moves-product r [] u = sym (product-solved r)
-moves-product {c} r (m ∷ l) u =
+moves-product {c = c} r (m ∷ l) u =
     let g = move-range m u.0 in
     let rest = apply_moves solved_cube l in
-    moves-product (product-range r g) l u.1
+    moves-product {c = turn c m} (product-range r g) l u.1
     ∙ product-assoc c g (moves-range solved-range l u.1)
-    ∙ ap (product c) (sym (moves-product (product-range solved-range g) l u.1 ∙ ap (λ (d : CubieCube). product d rest) (solved-product g)))
+    ∙ ap (product c) (sym (moves-product {c = turn solved_cube m} (product-range solved-range g) l u.1 ∙ ap (λ (d : CubieCube). product d rest) (solved-product g)))
