@@ -1,0 +1,24 @@
+-- `turning::inner::sort` meets its contract. The loop's invariant: the swaps made and those that are left make the swaps of the whole. Assumes nothing.
+use mathlib.Core.Path.{◌∙◌}
+use Prim.Native.Nat.{◌-◌}
+use native.Mathlib.Omega.{arith}
+use lib.ListN.{length, drop}
+use Rattle.base.proofs.Selection.{swaps-step, swaps-end, settled-le}
+use Rattle.turning.proofs.inner.sort.Goals as goal
+
+pub loop-i-preserved : goal.loop-i-preserved
+loop-i-preserved c =
+    let l = c.loop-i in
+    let h = c.loop-i-test.true in
+    let s = c.settle-count in
+    let n = length c.args.p.now in (
+      omega arith,
+      s.auto.p ∙ l.invariant.1,
+      omega (arith, settled-le l.i l.p s.new.p s.result s.ensures),
+      omega (arith, swaps-step n l.i l.p s.new.p s.result h l.invariant.1 s.ensures),
+    )
+
+pub returns : goal.returns
+returns c =
+    let l = c.loop-i in
+    omega (arith, swaps-end (length c.args.p.now) l.i (drop l.i l.p) (omega arith))
