@@ -1,0 +1,38 @@
+-- `cubie::inner::apply_moves` meets its contract. The loop's invariant: what is left of the list gives the same cube. Assumes nothing.
+use mathlib.Core.Path.{refl, sym, ap, ◌∙◌}
+use Prim.Native.Nat.{◌+◌, ◌-◌}
+use native.Mathlib.Omega.{arith}
+use lib.ListN.{get_or, drop, drop_of_length-le}
+use Rattle.base.proofs.Steps.{next}
+use Rattle.base.proofs.Tests.{under_at}
+use Rattle.cubie.specs.Cube.{apply_moves}
+use Rattle.cubie.specs.declared.CubieCube.{CubieCube}
+use Rattle.cubie.proofs.Range.{no-refusal, in-range}
+use Rattle.cubie.proofs.Turns.{turn-range}
+use borrow.Author.Rules.{rules}
+use Rattle.cubie.proofs.inner.apply_moves.Goals as goal
+
+pub loop-i-init : goal.loop-i-init
+loop-i-init c = (omega arith, in-range c.args.c c.requires.0 (search rules) (search rules) (search rules) (search rules), refl)
+
+pub apply_move-state-requires : goal.apply_move-state-requires
+apply_move-state-requires c = (no-refusal c.loop-i.invariant.1, under_at 18 c.args.moves.now c.loop-i.i c.requires.1 c.loop-i-test.true)
+
+pub loop-i-preserved : goal.loop-i-preserved
+unfolding apply_moves
+loop-i-preserved c =
+    let ms = c.args.moves.now in
+    let l = c.loop-i in
+    let h = c.loop-i-test.true in
+    let e = c.apply_move-state.ensures in
+    let low = under_at 18 ms l.i c.requires.1 h in (
+      omega arith,
+      rw e (turn-range l.invariant.1 (get_or ms l.i 0) low),
+      ap (λ (d : CubieCube). apply_moves d (drop (l.i + 1) ms)) e ∙ sym (ap (apply_moves l.state) (next ms l.i h)) ∙ l.invariant.2,
+    )
+
+pub returns : goal.returns
+unfolding apply_moves
+returns c =
+    let l = c.loop-i in
+    sym (ap (apply_moves l.state) (drop_of_length-le c.args.moves.now c.loop-i-test.false)) ∙ l.invariant.2
