@@ -4,8 +4,8 @@ use mathlib.Core.List.{List, []}
 use Prim.Native.Nat.{ℕ, ◌+◌, ◌-◌}
 use native.Mathlib.Omega.{arith}
 use lib.ListN.{length, take, drop, length-drop}
-use lib.Seq.{take_all, take-length, drop-length, drop-drop}
-use Rattle.bytes.specs.Bytes.{slice, index_of}
+use lib.Seq.{slice, take_all, take-length, drop-length, drop-drop}
+use Rattle.lines.specs.Lines.{index_of}
 
 -- where no LF is left, nothing stands behind it
 pub drop-end : (s : List ℕ) (n : ℕ) → n ≡ length s → drop n s ≡ drop (n + 1) s
@@ -15,7 +15,6 @@ drop-end s n e =
 
 -- the first LF of all that was read
 pub found : (s : List ℕ) → 0 + index_of 10 (slice 0 (length s) s) ≡ index_of 10 s
-unfolding slice
 found s = let e : index_of 10 (slice 0 (length s) s) ≡ index_of 10 s = ap (index_of 10) (take-length s) in omega (arith, e)
 
 -- a part that goes to the end

@@ -7,10 +7,9 @@ use native.Mathlib.Omega.{arith}
 use lib.Dec.{eqb}
 use lib.ListN.{length, length-drop}
 use borrow.Author.Tests.{eq-eqb, ne_eqb, le-leb, lt-leb}
-use Rattle.bytes.specs.Bytes.{index_of}
 use Rattle.cubie.specs.declared.CubieCube.{CubieCube}
 use Rattle.stickers.specs.Reader.{all_colors, cube_read, strict_refusal}
-use Rattle.lines.specs.Lines.{first_line, after_line, line, refused_word}
+use Rattle.lines.specs.Lines.{index_of, first_line, after_line, line, refused_word}
 use Rattle.search.specs.Solve.{solve_of}
 use Rattle.solution.specs.Drawing.{drawing, drawn_text, net_text}
 use Rattle.solution.specs.Request.{amount_of, bad_budget_line, bad_input_line, budget_text, limit_text, request_text, solution_text}
