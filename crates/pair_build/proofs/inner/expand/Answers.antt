@@ -1,7 +1,6 @@
 -- `pair_build::inner::expand` meets its contract. The loop's invariant is the contract's, at the moves tried so far. Assumes nothing.
 -- the neighbour, and that it is in the table
 use mathlib.Core.Path.{◌≡◌, sym, ap, ◌∙◌}
-use mathlib.Core.Logic.{⊎_elim}
 use Prim.Native.Nat.{ℕ, ◌-◌, ◌/◌, ◌%◌, ◌<◌}
 use native.Mathlib.Omega.{arith}
 use lib.ListN.{length, length-set, get_or}
@@ -9,6 +8,7 @@ use Rattle.pair_table.specs.Pairs.{next, held}
 use Rattle.pair_table.proofs.Steps.{in_row, row_lt, col-lt, ready-closed}
 use Rattle.pair_table.proofs.Held.{held_in}
 use Rattle.pair_table.proofs.Bfs.{expanded-keep, expanded-set}
+use Rattle.pair_build.proofs.inner.expand.Goals.{else-tab-q, then-tab-q}
 use Rattle.pair_build.proofs.inner.expand.Goals as goal
 
 abbrev step : tie.Start invariant-loop decreases-loop → ℕ → ℕ → ℕ
@@ -46,9 +46,6 @@ loop-m-preserved c =
     let reads : get_or tab c.neighbour-q.result 0 ≡ held tab (step s a.p m) = held_in tab c.neighbour-q.result 0 (q-in c.before.before) ∙ ap (held tab) (q-is c.before.before) in
     let l : step s a.p m < length tab = rw (q-is c.before.before) at (q-in c.before.before) in (
       omega arith,
-      ⊎_elim (λ w. rw w.1 (simp length-set inv.1)) (λ w. rw w.1 inv.1) c.if-tab-q.branch,
-      ⊎_elim
-          (λ w. rw (w.1, q-is c.before.before) (expanded-set (step s) a.p a.d m a.tab.now tab inv.2 l (sym reads ∙ w.0.taken)))
-          (λ w. rw w.1 (expanded-keep (step s) a.p a.d m a.tab.now tab inv.2 (λ e. w.0.left (reads ∙ e))))
-          c.if-tab-q.branch,
+      elim c.if-tab-q.branch [ then-tab-q w ↦ rw w.1 (simp length-set inv.1) | else-tab-q w ↦ rw w.1 inv.1 ],
+      elim c.if-tab-q.branch [ then-tab-q w ↦ rw (w.1, q-is c.before.before) (expanded-set (step s) a.p a.d m a.tab.now tab inv.2 l (sym reads ∙ w.if-tab-q.true)) | else-tab-q w ↦ rw w.1 (expanded-keep (step s) a.p a.d m a.tab.now tab inv.2 (λ e. w.if-tab-q.false (reads ∙ e))) ],
     )

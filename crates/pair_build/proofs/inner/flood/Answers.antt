@@ -19,6 +19,6 @@ pub returns-then-not-sweep : goal.returns-then-not-sweep
 returns-then-not-sweep c =
     let a = c.args in
     let step = next a.t1.now a.t2.now a.n2 a.k in
-    let tab' = c.sweep.new.t2.1.0 in
+    let tab' = c.sweep.new.tab in
     let same : tab' ≡ c.loop-d.tab = c.sweep.ensures.tab_unchanged (c.if-not-sweep.true) in
     let y = subst (λ (t : List ℕ). Layer step a.k (a.n1 * a.n2) c.loop-d.d t) (sym same) c.loop-d.invariant.2 in record { tab_len_unchanged = len w; layer_2 = stuck step a.k c.loop-d.d (a.n1 * a.n2) (ready-pos _ _ _ _ _ _ c.requires.ready) (ready-closed _ _ _ _ _ _ c.requires.ready) tab' (omega arith) y c.sweep.ensures.layer_2 }

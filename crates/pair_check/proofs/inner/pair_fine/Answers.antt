@@ -1,8 +1,6 @@
 -- `pair_check::inner::pair_fine` meets its contract.
 -- The loop's invariant: of the first m neighbours none is below v - 1, and `one` says whether one holds v - 1. Assumes nothing.
--- the step, the table and v, from the function's start
 use mathlib.Core.Path.{◌≡◌, ap, ◌∙◌}
-use mathlib.Core.Logic.{⊎_elim}
 use Prim.Native.Nat.{ℕ, ◌-◌, ◌/◌, ◌%◌, ◌≤◌}
 use native.Mathlib.Omega.{arith}
 use lib.ListN.{get_or}
@@ -10,26 +8,8 @@ use Rattle.pair_table.specs.Pairs.{next, held}
 use Rattle.pair_table.proofs.Steps.{in_row, row_lt, col-lt}
 use Rattle.pair_table.proofs.Held.{held_in}
 use Rattle.pair_check.proofs.PairRule.{seen_one, seen_more, fine-between}
+use Rattle.pair_check.proofs.inner.pair_fine.Goals.{else-w-v-2, then-w-v-2}
 use Rattle.pair_check.proofs.inner.pair_fine.Goals as goal
-
-abbrev step : tie.Start invariant-loop decreases-loop → ℕ → ℕ → ℕ
-step s = next s.args.t1.now s.args.t2.now s.args.n2 s.args.k
-
-abbrev dist : tie.Start invariant-loop decreases-loop → ℕ → ℕ
-dist s = held s.args.tab.now
-
-v-is : (s : tie.Start invariant-loop decreases-loop) → get_or s.args.tab.now s.args.p 0 ≡ dist s s.args.p
-v-is s = held_in s.args.tab.now s.args.p 0 (omega arith)
-
-abbrev start : tie.After-held-at invariant-loop decreases-loop → tie.Start invariant-loop decreases-loop
-start c = c.before.before.before.before.before.before.before.before.before.before
-
-abbrev m : tie.After-held-at invariant-loop decreases-loop → ℕ
-m c = c.before.before.before.loop.m
-
-w-is : (c : tie.After-held-at invariant-loop decreases-loop) → c.held_at.result ≡ dist (start c) (step (start c) (start c).args.p (m c))
-unfolding next
-w-is c = c.held_at.ensures ∙ ap (dist (start c)) c.before.neighbour.ensures
 
 pub neighbour-requires : goal.neighbour-requires
 neighbour-requires c =
@@ -39,19 +19,28 @@ neighbour-requires c =
     omega (arith, h1, h2)
 
 pub returns-then-w-v : goal.returns-then-w-v
-returns-then-w-v c =
-    let s = start c.before in
-    let ne = c.if-p-eq0.false in
-    omega (arith, v-is s, w-is c.before, (fine-between (step s) s.args.k (dist s) s.args.p ne f).none_below (m c.before) c.loop-m-test.true)
+unfolding next
+returns-then-w-v c f =
+    let a = c.args in
+    let step = next a.t1.now a.t2.now a.n2 a.k in
+    let dist = held a.tab.now in
+    let v-is = held_in a.tab.now a.p 0 (omega arith) in
+    let w-is : c.held_at-w.result ≡ dist (step a.p c.loop-m.m) = c.held_at-w.ensures ∙ ap dist c.neighbour.ensures in
+    omega (arith, v-is, w-is, (fine-between step a.k dist a.p c.if-p-eq0.false f).none_below c.loop-m.m c.loop-m-test.true)
 
 pub loop-m-preserved : goal.loop-m-preserved
+unfolding next
 loop-m-preserved c =
-    let s = start c.before.before in
-    let low : dist s s.args.p - 1 ≤ dist s (step s s.args.p (m c.before.before)) = omega (arith, v-is s, w-is c.before.before) in
+    let a = c.args in
+    let step = next a.t1.now a.t2.now a.n2 a.k in
+    let dist = held a.tab.now in
+    let v-is = held_in a.tab.now a.p 0 (omega arith) in
+    let w-is : c.held_at-w.result ≡ dist (step a.p c.loop-m.m) = c.held_at-w.ensures ∙ ap dist c.neighbour.ensures in
+    let low : dist a.p - 1 ≤ dist (step a.p c.loop-m.m) = omega (arith, v-is, w-is) in
     let seen = c.loop-m.invariant.1 in (
       omega arith,
-      ⊎_elim
-          (λ w. rw w.1 (seen_one (step s) s.args.k (dist s) s.args.p (m c.before.before) _ seen low (omega (arith, v-is s, w-is c.before.before))))
-          (λ w. rw w.1 (seen_more (step s) s.args.k (dist s) s.args.p (m c.before.before) _ seen low (omega (arith, v-is s, w-is c.before.before))))
-          c.if-w-v-2.branch,
+      elim c.if-w-v-2.branch
+      [ then-w-v-2 w ↦ rw w.one-is (seen_one step a.k dist a.p c.loop-m.m _ seen low (omega (arith, v-is, w-is)))
+      | else-w-v-2 w ↦ rw w.one-is (seen_more step a.k dist a.p c.loop-m.m _ seen low (omega (arith, v-is, w-is)))
+      ],
     )
