@@ -1,5 +1,4 @@
 -- `pair_build::inner::expand` meets its contract. The loop's invariant is the contract's, at the moves tried so far. Assumes nothing.
--- the neighbour, and that it is in the table
 use mathlib.Core.Path.{◌≡◌, sym, ap, ◌∙◌}
 use Prim.Native.Nat.{ℕ, ◌-◌, ◌/◌, ◌%◌, ◌<◌}
 use native.Mathlib.Omega.{arith}
@@ -11,23 +10,6 @@ use Rattle.pair_table.proofs.Bfs.{expanded-keep, expanded-set}
 use Rattle.pair_build.proofs.inner.expand.Goals.{else-tab-q, then-tab-q}
 use Rattle.pair_build.proofs.inner.expand.Goals as goal
 
-abbrev step : tie.Start invariant-loop decreases-loop → ℕ → ℕ → ℕ
-step s = next s.args.t1.now s.args.t2.now s.args.n2 s.args.k
-
-abbrev start : tie.After-neighbour invariant-loop decreases-loop → tie.Start invariant-loop decreases-loop
-start c = c.before.before.before.before.before.before
-
-q-is : (c : tie.After-neighbour invariant-loop decreases-loop) → c.neighbour.result ≡ step (start c) (start c).args.p c.before.before.loop.m
-unfolding next
-q-is c = c.neighbour.ensures
-
-q-in : (c : tie.After-neighbour invariant-loop decreases-loop) → c.neighbour.result < length c.before.before.loop.tab
-q-in c =
-    let s = start c in
-    let r = s.pre.0 in
-    let h = ready-closed _ _ _ _ _ _ r s.args.p c.before.before.loop.m s.pre.1 c.before.loop-test.true in
-    omega (arith, h, q-is c, r.sized.pairs)
-
 pub neighbour-q-requires : goal.neighbour-q-requires
 neighbour-q-requires c =
     let a = c.args in
@@ -37,15 +19,23 @@ neighbour-q-requires c =
     omega (arith, h1, h2)
 
 pub loop-m-preserved : goal.loop-m-preserved
+unfolding next
 loop-m-preserved c =
-    let s = start c.before.before in
-    let a = s.args in
+    let a = c.args in
+    let step = next a.t1.now a.t2.now a.n2 a.k in
     let m = c.loop-m.m in
     let tab = c.loop-m.tab in
     let inv = c.loop-m.invariant in
-    let reads : get_or tab c.neighbour-q.result 0 ≡ held tab (step s a.p m) = held_in tab c.neighbour-q.result 0 (q-in c.before.before) ∙ ap (held tab) (q-is c.before.before) in
-    let l : step s a.p m < length tab = rw (q-is c.before.before) at (q-in c.before.before) in (
+    let r = c.requires.ready in
+    let h = ready-closed _ _ _ _ _ _ r a.p m c.requires.p_bound c.loop-m-test.true in
+    let q-is : c.neighbour-q.result ≡ step a.p m = c.neighbour-q.ensures in
+    let q-in : c.neighbour-q.result < length tab = omega (arith, h, q-is, r.sized.pairs) in
+    let reads : get_or tab c.neighbour-q.result 0 ≡ held tab (step a.p m) = held_in tab c.neighbour-q.result 0 q-in ∙ ap (held tab) q-is in
+    let l : step a.p m < length tab = rw q-is at q-in in (
       omega arith,
-      elim c.if-tab-q.branch [ then-tab-q w ↦ rw w.1 (simp length-set inv.1) | else-tab-q w ↦ rw w.1 inv.1 ],
-      elim c.if-tab-q.branch [ then-tab-q w ↦ rw (w.1, q-is c.before.before) (expanded-set (step s) a.p a.d m a.tab.now tab inv.2 l (sym reads ∙ w.if-tab-q.true)) | else-tab-q w ↦ rw w.1 (expanded-keep (step s) a.p a.d m a.tab.now tab inv.2 (λ e. w.if-tab-q.false (reads ∙ e))) ],
+      elim c.if-tab-q.branch [ then-tab-q w ↦ rw w.tab-is (simp length-set inv.1) | else-tab-q w ↦ rw w.tab-is inv.1 ],
+      elim c.if-tab-q.branch
+      [ then-tab-q w ↦ rw (w.tab-is, q-is) (expanded-set step a.p a.d m a.tab.now tab inv.2 l (sym reads ∙ w.if-tab-q.true))
+      | else-tab-q w ↦ rw w.tab-is (expanded-keep step a.p a.d m a.tab.now tab inv.2 (λ e. w.if-tab-q.false (reads ∙ e)))
+      ],
     )
