@@ -13,14 +13,14 @@ pub returns-in_default : goal.returns-in_default
 unfolding parsed_as room_after
 returns-in_default c =
     let ms = parse c.args.text.now in
-    let n = no-moves ms ms c.args.moves.now (counted_none ms _ (sym c.count_moves.ensures ∙ c.enum_told-1.given.1)) in record { value = rw n; moves_after = rw n }
+    let n = no-moves ms ms c.args.moves.now (counted_none ms _ (sym c.count_moves.ensures ∙ c.in_default.is)) in record { value = rw n; moves_after = rw n }
 
 pub returns-then-moves-n : goal.returns-then-moves-n
 unfolding parsed_as room_after
 returns-then-moves-n c =
     let ms = parse c.args.text.now in
     let room = c.args.moves.now in
-    let is = counted-moves ms c.n-1.given.0.0 (sym c.count_moves.ensures ∙ c.n-1.given.1) in
+    let is = counted-moves ms c.in-Moves.n (sym c.count_moves.ensures ∙ c.in-Moves.is) in
     let h : length room < length ms = omega (arith, c.if-moves-n.true) in
     let n = no_room ms ms room is.0 h in record { value = rw n; moves_after = rw n }
 
@@ -28,7 +28,7 @@ pub put_moves-requires : goal.put_moves-requires
 put_moves-requires c =
     let ms = parse c.args.text.now in
     let room = c.args.moves.now in
-    let is = counted-moves ms c.n-1.given.0.0 (sym c.count_moves.ensures ∙ c.n-1.given.1) in
+    let is = counted-moves ms c.in-Moves.n (sym c.count_moves.ensures ∙ c.in-Moves.is) in
     (sym is.1, c.if-moves-n.false)
 
 pub returns : goal.returns
@@ -36,6 +36,6 @@ unfolding parsed_as room_after
 returns c =
     let ms = parse c.args.text.now in
     let room = c.args.moves.now in
-    let is = counted-moves ms c.n-1.given.0.0 (sym c.count_moves.ensures ∙ c.n-1.given.1) in
+    let is = counted-moves ms c.in-Moves.n (sym c.count_moves.ensures ∙ c.in-Moves.is) in
     let h : length ms ≤ length room = omega (arith, c.if-moves-n.false) in
     let n = none ms ms room is.0 h in record { value = rw n (ap Moves (sym is.1)); moves_after = rw n c.put_moves.ensures }

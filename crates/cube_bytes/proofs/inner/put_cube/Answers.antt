@@ -11,7 +11,7 @@ use Rattle.cube_bytes.proofs.inner.put_cube.Goals as goal
 
 pub returns : goal.returns
 returns c =
-    let g = c.well-formed in
+    let g = c.well_formed in
     let b = c.args.c in
     let d = c.args.out.now in
     let p : length b.cp ≡ 8 = search rules in

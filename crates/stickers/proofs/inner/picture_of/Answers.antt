@@ -14,7 +14,7 @@ use Rattle.stickers.proofs.inner.picture_of.Goals as goal
 pub paint_pieces-requires : goal.paint_pieces-requires
 unfolding corner_facelet edge_facelet corner_color edge_color solved_face
 paint_pieces-requires c =
-    let g = c.well-formed in
+    let g = c.well_formed in
     let b = c.args.c in
     let r = ranges b c.requires in
     let l : length b.cp ≡ 8 = search rules in
@@ -23,7 +23,7 @@ paint_pieces-requires c =
 pub paint_pieces-requires-2 : goal.paint_pieces-requires-2
 unfolding corner_facelet edge_facelet corner_color edge_color solved_face
 paint_pieces-requires-2 c =
-    let g = c.well-formed in
+    let g = c.well_formed in
     let b = c.args.c in
     let r = ranges b c.requires in
     let l : length b.ep ≡ 12 = search rules in

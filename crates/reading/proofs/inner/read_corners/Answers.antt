@@ -1,0 +1,51 @@
+-- `reading::inner::read_corners` meets its contract. Outer loop: what is written is the front of what is read. Inner loop: the pieces that are left give the first that fits. Assumes nothing.
+use mathlib.Core.Path.{◌≡◌, sym, ◌∙◌}
+use mathlib.Core.Logic.{⊎_elim}
+use mathlib.Core.List.{map}
+use Prim.Native.Nat.{◌-◌}
+use native.Mathlib.Omega.{arith}
+use lib.ListN.{length-set}
+use Rattle.base.specs.Lists.{range}
+use Rattle.base.proofs.Product.{map-range-at, map-range-length}
+use Rattle.base.proofs.Steps.{written-more, written_all}
+use Rattle.stickers.specs.Reader.{corner_fits, first_from, corner_read, twist_read}
+use Rattle.stickers.proofs.First.{first_found, first_next, first-none}
+use Rattle.stickers.proofs.Found.{corner-chosen, twist-chosen}
+use Rattle.reading.proofs.inner.read_corners.Goals as goal
+
+found : (c : tie.Joined1 invariant-pieces decreases-pieces invariant-places decreases-places) → c.if1.piece ≡ first_from (corner_fits c.before.before.before.at-corner3.result c.before.before.at-corner4.result) 0 8
+found c =
+    let l = c.before.pieces in
+    let p = corner_fits c.before.before.before.at-corner3.result c.before.before.at-corner4.result in
+    ⊎_elim (λ w. w.1 ∙ sym w.0.taken ∙ sym (first-none p 8 l.j (omega (arith, w.0.taken))) ∙ l.invariant.1)
+    (λ w. w.3 ∙ sym (first_found p 8 l.j (omega (arith, w.0.left, l.invariant.0)) (sym w.1.ensures ∙ w.2.taken)) ∙ l.invariant.1) c.if1.branch
+
+pub pieces-preserved : goal.pieces-preserved
+pieces-preserved c = (omega arith, first_next _ 8 c.pieces.j (omega arith) (sym c.corner_fits.ensures ∙ c.if-corner_fits.false) ∙ c.pieces.invariant.1)
+
+pub places-preserved : goal.places-preserved
+places-preserved c =
+    let s = c.args.s.now in
+    let l = c.places in
+    let h = c.places-test.true in
+    let e = found c.before.before in
+    let x = c.at_corner.ensures in
+    let y = c.at_corner-in-places.ensures in
+    let t = c.twist_seen-twist.ensures in
+    let a = c.at_corner-a.ensures in
+    let b = c.at_corner-b.ensures in
+    let p = corner-chosen s l.i _ _ _ _ _ _ x y t a b e in
+    let q = twist-chosen s l.i _ _ _ _ _ _ x y t a b e in (
+      omega arith,
+      length-set l.cp l.i _ ∙ l.invariant.1,
+      length-set l.co l.i _ ∙ l.invariant.2,
+      written-more l.cp (map (corner_read s) (range 0 8)) l.i (map-range-length (corner_read s) 8 ∙ sym l.invariant.1) l.invariant.3 _ (omega arith)
+          (c.chosen.ensures ∙ p ∙ sym (map-range-at (corner_read s) 8 l.i h)),
+      written-more l.co (map (twist_read s) (range 0 8)) l.i (map-range-length (twist_read s) 8 ∙ sym l.invariant.2) l.invariant.4 _ (omega arith)
+          (c.chosen-in-places.ensures ∙ q ∙ sym (map-range-at (twist_read s) 8 l.i h)),
+    )
+
+pub returns : goal.returns
+returns c =
+    let s = c.args.s.now in
+    let l = c.places in record { cp_after = written_all l.cp (map (corner_read s) (range 0 8)) l.i (map-range-length (corner_read s) 8 ∙ sym l.invariant.1) l.invariant.3 (omega arith); co_after = written_all l.co (map (twist_read s) (range 0 8)) l.i (map-range-length (twist_read s) 8 ∙ sym l.invariant.2) l.invariant.4 (omega arith) }
