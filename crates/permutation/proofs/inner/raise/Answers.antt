@@ -10,4 +10,4 @@ loop-j-preserved c =
     let d = c.args.d in
     let l = c.loop-j in
     let h = c.loop-j-test.true in
-    elim c.if-d-s.branch [ then-d-s w ↦ raise-yes d l.j s₀ l.s h l.invariant.1 l.invariant.2 c.if-d-s.s w.2 w.if-d-s.true | else-d-s w ↦ raise-no d l.j s₀ l.s h l.invariant.1 l.invariant.2 c.if-d-s.s w.1 w.if-d-s.false ]
+    elim c.if-d-s.branch [ then-d-s w ↦ raise-yes d l.j s₀ l.s h l.invariant.1 l.invariant.2 c.if-d-s.s w.s-is w.if-d-s.true | else-d-s w ↦ raise-no d l.j s₀ l.s h l.invariant.1 l.invariant.2 c.if-d-s.s w.s-is w.if-d-s.false ]
