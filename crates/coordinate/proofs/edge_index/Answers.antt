@@ -3,7 +3,7 @@ use Rattle.coordinate.proofs.Answers.{e-combo-found}
 use Rattle.coordinate.proofs.edge_index.Goals as goal
 
 pub returns-in-At-e_combo_to_index : goal.returns-in-At-e_combo_to_index
-returns-in-At-e_combo_to_index c = rw c.in-2.is (e-combo-found c.args.a c.n-in-At-e_combo_to_index-1.given.1 c.e_combo_to_index.ensures)
+returns-in-At-e_combo_to_index c = rw c.in-2.is (e-combo-found c.args.a c.in-At-e_combo_to_index.is c.e_combo_to_index.ensures)
 
 pub returns-in-Refused-e_combo_to_index : goal.returns-in-Refused-e_combo_to_index
-returns-in-Refused-e_combo_to_index c = rw c.in-2.is (e-combo-found c.args.a c.n-in-Refused-e_combo_to_index-1.given.1 c.e_combo_to_index.ensures)
+returns-in-Refused-e_combo_to_index c = rw c.in-2.is (e-combo-found c.args.a c.in-Refused-e_combo_to_index.is c.e_combo_to_index.ensures)

@@ -21,7 +21,7 @@ pub picture_of-face-requires : goal.picture_of-face-requires
 picture_of-face-requires c =
     let s = c.args.s.now in
     let plain = c.read_plain-plain.result in
-    let good : plain.verdict ≡ Good = c.enum_told-in-Good-1.given.1 in
+    let good : plain.verdict ≡ Good = c.in-Good.is in
     let z : plain_refusal s ≡ 0 = was-good (plain_refusal s) (cube_read s) (ap (λ (a : CubeAnswer). a.verdict) (sym c.read_plain-plain.ensures) ∙ good) in
     let cube : plain.cube ≡ cube_read s = ap (λ (a : CubeAnswer). a.cube) c.read_plain-plain.ensures ∙ good-cube (plain_refusal s) (cube_read s) z in
     ap refusal_of cube ∙ no-refusal (read-range s)
@@ -30,7 +30,7 @@ pub returns-then-same_bytes : goal.returns-then-same_bytes
 returns-then-same_bytes c =
     let s = c.args.s.now in
     let plain = c.read_plain-plain.result in
-    let good : plain.verdict ≡ Good = c.enum_told-in-Good-1.given.1 in
+    let good : plain.verdict ≡ Good = c.in-Good.is in
     let z : plain_refusal s ≡ 0 = was-good (plain_refusal s) (cube_read s) (ap (λ (a : CubeAnswer). a.verdict) (sym c.read_plain-plain.ensures) ∙ good) in
     let cube : plain.cube ≡ cube_read s = ap (λ (a : CubeAnswer). a.cube) c.read_plain-plain.ensures ∙ good-cube (plain_refusal s) (cube_read s) z in
     let e : same_list (picture (cube_read s)) s ≡ true = ap (λ (l : List ℕ). same_list l s) (sym (c.picture_of-face.ensures ∙ ap picture cube)) ∙ sym c.same_bytes.ensures ∙ c.if-same_bytes.true in
@@ -40,7 +40,7 @@ pub returns-in-Refused : goal.returns-in-Refused
 returns-in-Refused c =
     let s = c.args.s.now in
     let plain = c.read_plain-plain.result in
-    let bad : plain.verdict ≡ Refused c.enum_told-1.given.0.0 = c.enum_told-1.given.1 in
+    let bad : plain.verdict ≡ Refused c.in-Refused.field-0 = c.in-Refused.is in
     let n : plain_refusal s ≡ 0 → ⊥ = was-refused (plain_refusal s) _ (cube_read s) (ap (λ (a : CubeAnswer). a.verdict) (sym c.read_plain-plain.ensures) ∙ bad) in
     c.read_plain-plain.ensures ∙ ap (λ (k : ℕ). cubed k (cube_read s)) (sym (strict-refused s n))
 
@@ -48,7 +48,7 @@ pub returns-else-same_bytes : goal.returns-else-same_bytes
 returns-else-same_bytes c =
     let s = c.args.s.now in
     let plain = c.read_plain-plain.result in
-    let good : plain.verdict ≡ Good = c.enum_told-in-Good-1.given.1 in
+    let good : plain.verdict ≡ Good = c.in-Good.is in
     let z : plain_refusal s ≡ 0 = was-good (plain_refusal s) (cube_read s) (ap (λ (a : CubeAnswer). a.verdict) (sym c.read_plain-plain.ensures) ∙ good) in
     let cube : plain.cube ≡ cube_read s = ap (λ (a : CubeAnswer). a.cube) c.read_plain-plain.ensures ∙ good-cube (plain_refusal s) (cube_read s) z in
     let e : same_list (picture (cube_read s)) s ≡ false = ap (λ (l : List ℕ). same_list l s) (sym (c.picture_of-face.ensures ∙ ap picture cube)) ∙ sym c.same_bytes.ensures ∙ c.if-same_bytes.false in

@@ -1,6 +1,5 @@
 -- `reading::inner::read_corners` meets its contract. Outer loop: what is written is the front of what is read. Inner loop: the pieces that are left give the first that fits. Assumes nothing.
 use mathlib.Core.Path.{◌≡◌, sym, ◌∙◌}
-use mathlib.Core.Logic.{⊎_elim}
 use mathlib.Core.List.{map}
 use Prim.Native.Nat.{◌-◌}
 use native.Mathlib.Omega.{arith}
@@ -11,14 +10,8 @@ use Rattle.base.proofs.Steps.{written-more, written_all}
 use Rattle.stickers.specs.Reader.{corner_fits, first_from, corner_read, twist_read}
 use Rattle.stickers.proofs.First.{first_found, first_next, first-none}
 use Rattle.stickers.proofs.Found.{corner-chosen, twist-chosen}
+use Rattle.reading.proofs.inner.read_corners.Goals.{then-j-eq8, else-j-eq8+then-corner_fits}
 use Rattle.reading.proofs.inner.read_corners.Goals as goal
-
-found : (c : tie.Joined1 invariant-pieces decreases-pieces invariant-places decreases-places) → c.if1.piece ≡ first_from (corner_fits c.before.before.before.at-corner3.result c.before.before.at-corner4.result) 0 8
-found c =
-    let l = c.before.pieces in
-    let p = corner_fits c.before.before.before.at-corner3.result c.before.before.at-corner4.result in
-    ⊎_elim (λ w. w.1 ∙ sym w.0.taken ∙ sym (first-none p 8 l.j (omega (arith, w.0.taken))) ∙ l.invariant.1)
-    (λ w. w.3 ∙ sym (first_found p 8 l.j (omega (arith, w.0.left, l.invariant.0)) (sym w.1.ensures ∙ w.2.taken)) ∙ l.invariant.1) c.if1.branch
 
 pub pieces-preserved : goal.pieces-preserved
 pieces-preserved c = (omega arith, first_next _ 8 c.pieces.j (omega arith) (sym c.corner_fits.ensures ∙ c.if-corner_fits.false) ∙ c.pieces.invariant.1)
@@ -28,7 +21,13 @@ places-preserved c =
     let s = c.args.s.now in
     let l = c.places in
     let h = c.places-test.true in
-    let e = found c.before.before in
+    let fits = corner_fits c.at_corner-a.result c.at_corner-b.result in
+    let inner = c.pieces in
+    let e : c.if-j-eq8.piece ≡ first_from fits 0 8 =
+    elim c.if-j-eq8.branch
+    [ then-j-eq8 w ↦ w.piece-is ∙ sym w.if-j-eq8.true ∙ sym (first-none fits 8 inner.j (omega (arith, w.if-j-eq8.true))) ∙ inner.invariant.1
+    | else-j-eq8+then-corner_fits w ↦ w.piece-is ∙ sym (first_found fits 8 inner.j (omega (arith, w.if-j-eq8.false, inner.invariant.0)) (sym w.corner_fits.ensures ∙ w.if-corner_fits.true)) ∙ inner.invariant.1
+    ] in
     let x = c.at_corner.ensures in
     let y = c.at_corner-in-places.ensures in
     let t = c.twist_seen-twist.ensures in

@@ -1,6 +1,5 @@
 -- `reading::inner::read_edges` meets its contract. Outer loop: what is written is the front of what is read. Inner loop: the ways that are left give the first that fits. Assumes nothing.
 use mathlib.Core.Path.{◌≡◌, sym, ◌∙◌}
-use mathlib.Core.Logic.{⊎_elim}
 use mathlib.Core.List.{map}
 use Prim.Native.Nat.{◌-◌}
 use native.Mathlib.Omega.{arith}
@@ -11,14 +10,8 @@ use Rattle.base.proofs.Steps.{written-more, written_all}
 use Rattle.stickers.specs.Reader.{edge_fits, first_from, edge_read, flip_read}
 use Rattle.stickers.proofs.First.{first_found, first_next, first-none}
 use Rattle.stickers.proofs.Found.{edge-chosen, flip-chosen}
+use Rattle.reading.proofs.inner.read_edges.Goals.{then-k-eq24, else-k-eq24+then-edge_fits}
 use Rattle.reading.proofs.inner.read_edges.Goals as goal
-
-found : (c : tie.Joined1 invariant-ways decreases-ways invariant-places decreases-places) → c.if1.way ≡ first_from (edge_fits c.before.before.before.at_Edge.result c.before.before.at-edge2.result) 0 24
-found c =
-    let l = c.before.ways in
-    let p = edge_fits c.before.before.before.at_Edge.result c.before.before.at-edge2.result in
-    ⊎_elim (λ w. w.1 ∙ sym w.0.taken ∙ sym (first-none p 24 l.k (omega (arith, w.0.taken))) ∙ l.invariant.1)
-    (λ w. w.3 ∙ sym (first_found p 24 l.k (omega (arith, w.0.left, l.invariant.0)) (sym w.1.ensures ∙ w.2.taken)) ∙ l.invariant.1) c.if1.branch
 
 pub ways-preserved : goal.ways-preserved
 ways-preserved c = (omega arith, first_next _ 24 c.ways.k (omega arith) (sym c.edge_fits.ensures ∙ c.if-edge_fits.false) ∙ c.ways.invariant.1)
@@ -28,7 +21,13 @@ places-preserved c =
     let s = c.args.s.now in
     let l = c.places in
     let h = c.places-test.true in
-    let e = found c.before.before.before in
+    let fits = edge_fits c.at_edge-a.result c.at_edge-b.result in
+    let inner = c.ways in
+    let e : c.if-k-eq24.way' ≡ first_from fits 0 24 =
+    elim c.if-k-eq24.branch
+    [ then-k-eq24 w ↦ w.way'-is ∙ sym w.if-k-eq24.true ∙ sym (first-none fits 24 inner.k (omega (arith, w.if-k-eq24.true))) ∙ inner.invariant.1
+    | else-k-eq24+then-edge_fits w ↦ w.way'-is ∙ sym (first_found fits 24 inner.k (omega (arith, w.if-k-eq24.false, inner.invariant.0)) (sym w.edge_fits.ensures ∙ w.if-edge_fits.true)) ∙ inner.invariant.1
+    ] in
     let p = edge-chosen s l.i _ _ _ c.at_edge-a.ensures c.at_edge-b.ensures e in
     let q = flip-chosen s l.i _ _ _ c.at_edge-a.ensures c.at_edge-b.ensures e in (
       omega arith,
