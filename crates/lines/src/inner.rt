@@ -5,7 +5,8 @@ ghost use Rattle.lines.specs.Lines.{decimal, index_of, line};
 
 // The index of the first byte `b`, or the length where there is none.
 pub fn find(s: &[u8], b: u8) -> usize
-    ensures { result ≡ index_of b s.now }
+    ensures value { result ≡ index_of b s.now }
+    ensures within { result ≤ length s.now }
 {
     let mut i = 0;
     while i < s.len() {

@@ -5,7 +5,6 @@ use Prim.Native.Nat.{ℕ, ◌+◌, ◌-◌}
 use lib.ListN.{length, take, drop}
 use lib.Seq.{length-take-le}
 use borrow.Author.Tests.{le-leb, lt-leb, eq-eqb}
-use Rattle.bytes.specs.Bytes.{index_of}
 use Rattle.cubie.specs.declared.CubeAnswer.{CubeAnswer}
 use Rattle.cubie.specs.declared.CubieCube.{CubieCube}
 use Rattle.cubie.proofs.Answers.{was-good, good-cube}
@@ -13,8 +12,8 @@ use Rattle.stickers.specs.Reader.{cube_read, strict_refusal, read_strict}
 use Rattle.stickers.proofs.Ranges.{read-range}
 use Rattle.stickers.proofs.Refusals.{cube-refused}
 use Rattle.judgement.specs.Judge.{closed, score_moves, score_lines, scored}
-use Rattle.lines.specs.Lines.{first_line}
-use Rattle.lines.proofs.Parts.{found, to_the_end}
+use Rattle.lines.specs.Lines.{first_line, index_of}
+use Rattle.lines.proofs.Parts.{to_the_end}
 use Rattle.judgement.proofs.inner.score.Goals as goal
 
 pub returns-then-input-gt1024 : goal.returns-then-input-gt1024
@@ -22,15 +21,18 @@ unfolding scored
 returns-then-input-gt1024 c = c.refused.ensures ∙ rw (lt-leb (length c.args.input.now) 1024 c.if-input-gt1024.true)
 
 pub slice_bounds-read_strict-end : goal.slice_bounds-read_strict-end
-slice_bounds-read_strict-end c = sym (length-take-le c.find-end.result c.args.input.now c.find-end.ensures.1)
+slice_bounds-read_strict-end c = sym (length-take-le c.find-end.result c.args.input.now c.find-end.ensures.within)
+
+pub text_start-start-requires : goal.text_start-start-requires
+text_start-start-requires c = c.find-end.ensures.within
 
 pub score_text-requires : goal.score_text-requires
 score_text-requires c =
     let s = c.args.input.now in
-    let at : c.find-end.result ≡ index_of 10 s = c.find-end.ensures.0 ∙ found s in
+    let at : c.find-end.result ≡ index_of 10 s = c.find-end.ensures.value in
     let read : c.read_strict-read.result ≡ read_strict (first_line s) = c.read_strict-read.ensures ∙ ap (λ (k : ℕ). read_strict (take k s)) at in
     let short = le-leb (length s) 1024 c.if-input-gt1024.false in
-    let z = was-good (strict_refusal (first_line s)) (cube_read (first_line s)) (sym (ap (λ (a : CubeAnswer). a.verdict) read) ∙ c.enum_told-1.given.1) in
+    let z = was-good (strict_refusal (first_line s)) (cube_read (first_line s)) (sym (ap (λ (a : CubeAnswer). a.verdict) read) ∙ c.in-Good.is) in
     let e = ap (λ (a : CubeAnswer). a.cube) read ∙ good-cube (strict_refusal (first_line s)) (cube_read (first_line s)) z in
     rw e (read-range (first_line s))
 
@@ -38,20 +40,20 @@ pub returns-in-Refused : goal.returns-in-Refused
 unfolding scored score_lines
 returns-in-Refused c =
     let s = c.args.input.now in
-    let at : c.find-end.result ≡ index_of 10 s = c.find-end.ensures.0 ∙ found s in
+    let at : c.find-end.result ≡ index_of 10 s = c.find-end.ensures.value in
     let read : c.read_strict-read.result ≡ read_strict (first_line s) = c.read_strict-read.ensures ∙ ap (λ (k : ℕ). read_strict (take k s)) at in
     let short = le-leb (length s) 1024 c.if-input-gt1024.false in
-    let r = cube-refused (strict_refusal (first_line s)) c.verdict-1.given.0.0 (cube_read (first_line s)) (sym (ap (λ (a : CubeAnswer). a.verdict) read) ∙ c.verdict-1.given.1) in
+    let r = cube-refused (strict_refusal (first_line s)) c.in-Refused.n (cube_read (first_line s)) (sym (ap (λ (a : CubeAnswer). a.verdict) read) ∙ c.in-Refused.is) in
     c.refused-in-Refused.ensures ∙ rw (short, r.0, r.1)
 
 pub returns-in-Good : goal.returns-in-Good
 unfolding scored score_lines
 returns-in-Good c =
     let s = c.args.input.now in
-    let at : c.find-end.result ≡ index_of 10 s = c.find-end.ensures.0 ∙ found s in
+    let at : c.find-end.result ≡ index_of 10 s = c.find-end.ensures.value in
     let read : c.read_strict-read.result ≡ read_strict (first_line s) = c.read_strict-read.ensures ∙ ap (λ (k : ℕ). read_strict (take k s)) at in
     let short = le-leb (length s) 1024 c.if-input-gt1024.false in
-    let z = was-good (strict_refusal (first_line s)) (cube_read (first_line s)) (sym (ap (λ (a : CubeAnswer). a.verdict) read) ∙ c.enum_told-1.given.1) in
+    let z = was-good (strict_refusal (first_line s)) (cube_read (first_line s)) (sym (ap (λ (a : CubeAnswer). a.verdict) read) ∙ c.in-Good.is) in
     let e = ap (λ (a : CubeAnswer). a.cube) read ∙ good-cube (strict_refusal (first_line s)) (cube_read (first_line s)) z in
     let rest : drop c.text_start-start.result s ≡ drop (index_of 10 s + 1) s = c.text_start-start.ensures.1 ∙ ap (λ (k : ℕ). drop (k + 1) s) at in
     c.score_text.ensures
