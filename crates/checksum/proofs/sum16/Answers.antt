@@ -1,5 +1,5 @@
 -- `checksum::sum16` meets its contract. Assumes nothing.
-use Rattle.std.proofs.Common.{◌+◌, ◌-◌, ◌/◌, get_or, drop, sym, ap, ◌∙◌, arith}
+use Rattle.std.proofs.Common.{◌+◌, ◌/◌, get_or, drop, sym, ap, ◌∙◌, arith}
 use Rattle.checksum.specs.Sum.{fnv_step, fnv_from, bytes16}
 use Rattle.checksum.proofs.Turns.{turn16, end16}
 use Rattle.checksum.proofs.sum16.Goals as goal

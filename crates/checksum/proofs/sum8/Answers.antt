@@ -1,5 +1,5 @@
 -- `checksum::sum8` meets its contract. Assumes nothing.
-use Rattle.std.proofs.Common.{◌+◌, ◌-◌, drop, sym, ap, ◌∙◌, arith}
+use Rattle.std.proofs.Common.{◌+◌, drop, sym, ap, ◌∙◌, arith}
 use Rattle.checksum.specs.Sum.{fnv_from}
 use Rattle.checksum.proofs.Turns.{turn8, end8}
 use Rattle.checksum.proofs.sum8.Goals as goal
