@@ -8,7 +8,7 @@ use native.Mathlib.Nat.{eq-or-lt_of_le}
 use native.Mathlib.Omega.{arith}
 use Rattle.base.specs.Finds.{In, here, there, Says, silent, says, Is, is, Ended, Goes, goes, stops, Hits}
 use Rattle.base.specs.Lists.{Each, range}
-use Rattle.base.specs.Search.{Res, still, done, Next, refuse, to, Rules, and_then, branch, deepen, through, walk, enter, Plain, plain}
+use Rattle.base.specs.Search.{Res, still, done, Next, to, Rules, and_then, branch, deepen, through, walk, enter, Plain, plain}
 use Rattle.base.proofs.Product.{range-under}
 
 -- ---- the numbers of a range

@@ -6,7 +6,7 @@ use mathlib.Core.Bool.{Bool, true, false}
 use mathlib.Core.List.{List, [], ◌∷◌}
 use Rattle.base.specs.Lists.{Each}
 use Rattle.base.specs.Simulation.{Agree, open_both, done_both, lost, Steps, step, stop, NoEnd, Simulates}
-use Rattle.base.specs.Search.{Res, still, done, Next, refuse, to, Rules, and_then, branch, deepen, through, walk, enter, Plain, plain}
+use Rattle.base.specs.Search.{Res, still, Next, to, Rules, and_then, branch, deepen, through, walk, enter, Plain, plain}
 
 module _ {A S T : Type 0} {Lost : A → Type 0} where
   -- what goes on from agreeing parts agrees

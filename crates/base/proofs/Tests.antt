@@ -9,8 +9,8 @@ use native.Mathlib.Omega.{arith}
 use lib.Dec.{eqb}
 use lib.ListN.{length, get_or, take, drop}
 use borrow.Author.Tests.{eqb-true, eq-eqb, ltb-true, lt-ltb}
-use Rattle.base.specs.Lists.{all_below, Under, in_range, same_list, Sized}
-use Rattle.base.specs.Perm.{same, count, Perm, no_repeat}
+use Rattle.base.specs.Lists.{all_below, Under, in_range, same_list}
+use Rattle.base.specs.Perm.{same, count, no_repeat}
 use Rattle.base.proofs.Perm.{same-is, same-cut, total-map, total_ext}
 
 pub and-true : (a b : Bool) → a && b ≡ true → (a ≡ true) × (b ≡ true)

@@ -1,5 +1,5 @@
 -- What a search says, and the paths that it follows. Assumes nothing: these are definitions.
-use Rattle.std.specs.Prelude.{ℕ, zero, suc, ◌≡◌, true, List, [], ◌∷◌}
+use Rattle.std.specs.Prelude.{ℕ, zero, suc, ◌≡◌, true, List, ◌∷◌}
 use Rattle.base.specs.Search.{Res, still, done, Next, refuse, to, Plain}
 
 -- m is an element

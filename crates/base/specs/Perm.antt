@@ -1,7 +1,7 @@
 -- The number of a permutation and the permutation of a number, over lists of any length.
 -- `number` is `slice_to_index` of index.rs; `perm_of` is `fill_perm_slice` on a slice of zeros.
 -- Assumes nothing.
-use Rattle.std.specs.Prelude.{◌≡◌, Bool, true, false, ◌&&◌, List, [], ◌∷◌, map, ℕ, zero, suc, ◌+◌, ◌*◌, ◌/◌, ◌%◌, ◌≤◌, ◌<◌, ltb, leb, eqb, length}
+use Rattle.std.specs.Prelude.{◌≡◌, Bool, true, ◌&&◌, List, [], ◌∷◌, map, ℕ, zero, suc, ◌+◌, ◌*◌, ◌/◌, ◌%◌, ◌≤◌, ltb, leb, eqb, length}
 use Rattle.base.specs.Lists.{bit, total, Under}
 
 -- 1 where x is below a, else 0

@@ -2,7 +2,7 @@
 use mathlib.Core.Path.{◌≡◌}
 use native.Mathlib.Omega.{arith}
 use mathlib.Core.Path.{sym, ◌∙◌}
-use Rattle.base.specs.Lists.{range, Sized}
+use Rattle.base.specs.Lists.{range}
 use Rattle.base.proofs.Product.{compose-assoc, twisted-assoc, compose-unit, twisted-unit, unit-compose, unit-twisted, compose-sized, twisted-sized}
 use Rattle.cubie.specs.Cube.{InRange, product, solved_cube}
 use Rattle.cubie.specs.declared.CubieCube.{CubieCube}

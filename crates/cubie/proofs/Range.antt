@@ -1,12 +1,12 @@
 -- A cube is in range exactly where its refusal is 0. Assumes nothing.
-use mathlib.Core.Path.{◌≡◌, refl, sym, ap, ◌∙◌}
+use mathlib.Core.Path.{◌≡◌, refl}
 use mathlib.Core.Bool.{Bool, true, false, ◌&&◌}
 use mathlib.Core.List.{List, [], ◌∷◌}
 use Prim.Native.Nat.{ℕ, zero, ◌-◌, ◌%◌}
 use native.Mathlib.Omega.{arith}
 use lib.ListN.{length}
 use Rattle.base.specs.Lists.{pick, Under, in_range, total}
-use Rattle.base.proofs.Tests.{and-true, both_true, in_range-under, under-in_range}
+use Rattle.base.proofs.Tests.{and-true, in_range-under, under-in_range}
 use Rattle.cubie.specs.Cube.{refusal_of, InRange}
 use Rattle.cubie.specs.declared.CubieCube.{CubieCube}
 

@@ -1,15 +1,15 @@
 -- The product of two solvable cubes is solvable, and each of the 18 moves keeps solvability. Assumes nothing.
-use mathlib.Core.Path.{◌≡◌, refl, sym, ap, ◌∙◌}
-use mathlib.Core.Bool.{Bool, true, ◌&&◌}
+use mathlib.Core.Path.{◌≡◌, refl, ◌∙◌}
+use mathlib.Core.Bool.{Bool, true}
 use mathlib.Core.List.{List, [], ◌∷◌}
 use Prim.Native.Nat.{ℕ, ◌+◌, ◌-◌, ◌%◌, ◌<◌}
 use native.Mathlib.Omega.{arith}
 use lib.Dec.{eqb}
 use borrow.Author.Tests.{eqb-true, eq-eqb}
-use Rattle.base.specs.Lists.{all_below, Under, Sized, total, range}
+use Rattle.base.specs.Lists.{all_below, Under}
 use Rattle.base.specs.Parity.{put, swaps_from, swaps}
 use Rattle.base.specs.Perm.{same, Perm, no_repeat}
-use Rattle.base.specs.Product.{compose, twisted}
+use Rattle.base.specs.Product.{twisted}
 use Rattle.base.proofs.Parity.{compose-perm, swaps-compose}
 use Rattle.base.proofs.Product.{total-twisted}
 use Rattle.base.proofs.Tests.{and-true, both_true, below_true, no_repeat-once, once-no_repeat}

@@ -13,10 +13,10 @@ use Rattle.base.specs.Lists.{all_below, Under, same_list, times}
 use Rattle.base.specs.Product.{twisted}
 use Rattle.base.proofs.Tests.{and-true, below_true, same_list-is}
 use Rattle.cubie.specs.Cube.{refusal_of, InRange, product, solved_cube, quarter_turns, power, move_of, turn, apply_moves, same_cube}
-use Rattle.moves.specs.Moves.{inverse_move, all_moves, phase2_moves}
+use Rattle.moves.specs.Moves.{inverse_move}
 use Rattle.cubie.specs.declared.CubieCube.{CubieCube}
 use Rattle.cubie.proofs.Product.{cube-path, product-range, product-assoc, product-solved, solved-product}
-use Rattle.cubie.proofs.Range.{in-range, no-refusal}
+use Rattle.cubie.proofs.Range.{in-range}
 
 pub same-is : (a b : CubieCube) → same_cube a b ≡ true → a ≡ b
 unfolding same_cube

@@ -1,5 +1,5 @@
 -- The cube of cubie.rs: its range, the product of two, the six quarter turns and the 18 moves. Assumes nothing: these are definitions.
-use Rattle.std.specs.Prelude.{Bool, true, false, ◌&&◌, List, [], ◌∷◌, ◌++◌, ℕ, zero, suc, ◌/◌, ◌%◌, get_or, take, drop}
+use Rattle.std.specs.Prelude.{Bool, ◌&&◌, List, [], ◌∷◌, ◌++◌, ℕ, zero, suc, ◌/◌, ◌%◌, get_or, take, drop}
 use Rattle.base.specs.Lists.{pick, in_range, Sized, same_list}
 use Rattle.base.specs.Product.{compose, twisted}
 use Rattle.cubie.specs.declared.CubieCube.{CubieCube}

@@ -1,5 +1,5 @@
 -- The four counts of cubie.rs, and what is solvable. Assumes nothing: these are definitions.
-use Rattle.std.specs.Prelude.{Bool, ◌&&◌, List, ℕ, ◌-◌, ◌%◌, eqb}
+use Rattle.std.specs.Prelude.{Bool, ◌&&◌, ℕ, ◌-◌, ◌%◌, eqb}
 use Rattle.base.specs.Lists.{total}
 use Rattle.base.specs.Parity.{swaps}
 use Rattle.base.specs.Perm.{no_repeat}

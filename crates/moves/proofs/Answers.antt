@@ -1,5 +1,5 @@
 -- The answers by cases: refused, or not. Assumes nothing.
-use mathlib.Core.Path.{◌≡◌, refl, sym, ap, ap₂, ◌∙◌}
+use mathlib.Core.Path.{◌≡◌, refl}
 use mathlib.Core.Bool.{Bool, true, false}
 use Prim.Native.Nat.{ℕ, zero, ◌<◌, min}
 use native.Mathlib.Omega.{arith}

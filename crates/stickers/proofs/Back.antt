@@ -1,14 +1,14 @@
 -- The picture of a cube is read back as that cube: what is about single pieces is computed once, over pieces and turns. Assumes nothing.
-use mathlib.Core.Path.{◌≡◌, refl, sym, ap, ap₂, subst, ◌∙◌}
+use mathlib.Core.Path.{◌≡◌, refl, sym, ap, ap₂, ◌∙◌}
 use mathlib.Core.Bool.{Bool, true, ◌&&◌}
 use mathlib.Core.List.{List}
-use Prim.Native.Nat.{ℕ, zero, suc, ◌+◌, ◌-◌, ◌*◌, ◌/◌, ◌%◌, ◌<◌}
+use Prim.Native.Nat.{ℕ, ◌+◌, ◌-◌, ◌*◌, ◌/◌, ◌%◌, ◌<◌}
 use native.Mathlib.Nat.{mod-lt, zero-lt-suc}
 use native.Mathlib.Omega.{arith}
 use lib.Dec.{eqb, ltb}
 use lib.ListN.{length, get_or}
 use borrow.Author.Tests.{eqb-true, lt-ltb}
-use Rattle.base.specs.Lists.{pick, all_below, Under}
+use Rattle.base.specs.Lists.{pick, all_below}
 use Rattle.base.specs.Perm.{same, count, no_repeat}
 use Rattle.base.proofs.Product.{map-range-at, map-range-length, map-range-is}
 use Rattle.base.proofs.Tests.{and-true, below_true, no_repeat-once, under_at}
@@ -16,7 +16,7 @@ use Rattle.cubie.specs.Cube.{InRange}
 use Rattle.cubie.specs.declared.CubieCube.{CubieCube}
 use Rattle.cubie.proofs.Product.{cube-path}
 use Rattle.stickers.specs.Picture.{paint, shown_at, shown, picture}
-use Rattle.stickers.specs.Reader.{is_ud, first_from, corner_fits, edge_fits, twist_seen, corner_seen, edge_seen, at_corner, at_edge, corner_read, twist_read, edge_read, flip_read, cube_read}
+use Rattle.stickers.specs.Reader.{is_ud, first_from, corner_fits, twist_seen, corner_seen, edge_seen, at_corner, at_edge, corner_read, twist_read, edge_read, flip_read, cube_read}
 use Rattle.stickers.specs.Stickers.{corner_facelet, edge_facelet, corner_color, edge_color, solved_face}
 use Rattle.stickers.proofs.Paint.{paint-other, paint-at, paint-length}
 use Rattle.stickers.proofs.Places.{corner-places, edge_places}

@@ -1,10 +1,10 @@
 -- A picture has nothing but the six letters. Assumes nothing.
 use mathlib.Core.Path.{◌≡◌, refl}
-use mathlib.Core.Bool.{true, ◌&&◌}
+use mathlib.Core.Bool.{true}
 use mathlib.Core.List.{List, [], ◌∷◌, map}
 use Prim.Native.Nat.{ℕ, zero, suc, ◌+◌, ◌-◌, ◌*◌, ◌/◌, ◌%◌, ◌<◌}
 use native.Mathlib.Omega.{arith}
-use lib.ListN.{length, get_or, set}
+use lib.ListN.{get_or, set}
 use Rattle.base.specs.Lists.{all_below, range}
 use Rattle.base.proofs.Tests.{and-true, both_true, below_true, under_at}
 use Rattle.cubie.specs.Cube.{InRange}

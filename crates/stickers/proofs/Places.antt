@@ -5,7 +5,7 @@ use native.Mathlib.Omega.{arith}
 use lib.ListN.{length, get_or}
 use Rattle.base.specs.Lists.{Under}
 use Rattle.base.proofs.Tests.{in_range-under, under_at}
-use Rattle.stickers.specs.Stickers.{corner_facelet, edge_facelet, corner_color, edge_color, solved_face}
+use Rattle.stickers.specs.Stickers.{corner_facelet, edge_facelet, corner_color, edge_color}
 
 pub corner-places : (length corner_facelet ≡ 24) × Under 54 corner_facelet
 unfolding corner_facelet

@@ -11,7 +11,6 @@ use lib.ListN.{length}
 use borrow.Author.Tests.{eq-eqb, eqb-true, eqb-false}
 use Rattle.base.specs.Lists.{pick, same_list}
 use Rattle.base.proofs.Tests.{same_list-is, same_list-self}
-use Rattle.cubie.specs.Answers.{cubed}
 use Rattle.cubie.specs.Cube.{InRange}
 use Rattle.cubie.specs.Solvable.{solvable}
 use Rattle.cubie.specs.declared.CubeAnswer.{CubeAnswer}

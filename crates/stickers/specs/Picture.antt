@@ -1,5 +1,5 @@
 -- The picture of a cube: its 54 stickers. Assumes nothing: these are definitions.
-use Rattle.std.specs.Prelude.{Bool, List, [], ◌∷◌, map, ℕ, ◌+◌, ◌-◌, ◌*◌, ◌/◌, ◌%◌, eqb, get_or, set, replicate}
+use Rattle.std.specs.Prelude.{List, [], ◌∷◌, map, ℕ, ◌+◌, ◌-◌, ◌*◌, ◌/◌, ◌%◌, eqb, get_or, set, replicate}
 use Rattle.base.specs.Lists.{pick, range}
 use Rattle.cubie.specs.Cube.{refusal_of}
 use Rattle.cubie.specs.Solvable.{solvable}

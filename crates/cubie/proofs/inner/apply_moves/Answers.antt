@@ -1,6 +1,6 @@
 -- `cubie::inner::apply_moves` meets its contract. The loop's invariant: what is left of the list gives the same cube. Assumes nothing.
 use mathlib.Core.Path.{refl, sym, ap, ◌∙◌}
-use Prim.Native.Nat.{◌+◌, ◌-◌}
+use Prim.Native.Nat.{◌+◌}
 use native.Mathlib.Omega.{arith}
 use lib.ListN.{get_or, drop, drop_of_length-le}
 use Rattle.base.proofs.Steps.{next}

@@ -1,6 +1,5 @@
 -- `list_text::inner::count_moves` meets its contract. The loop keeps the answer: the moves counted, and the words that are left. Assumes nothing.
 use mathlib.Core.Path.{◌≡◌, sym, ap, ◌∙◌}
-use Prim.Native.Nat.{◌-◌}
 use native.Mathlib.Omega.{arith}
 use lib.ListN.{length}
 use Rattle.base.specs.Lists.{in_range}

@@ -42,8 +42,11 @@ returns c =
     let words = ap (λ (l : List ℕ). spaced (map word_of l)) rest in
     let e = c.put_word-at.ensures in
     let f = c.put_spaced.ensures in
-    let room : 0 + length first ≤ length d = omega (arith, c.requires.1, size) in record { value = omega (arith, size, e.value, f.value, ap length words); text_after = f.text_after
+    let room : 0 + length first ≤ length d = omega (arith, c.requires.1, size) in record {
+      value = omega (arith, size, e.value, f.value, ap length words);
+      text_after = f.text_after
           ∙ ap (over c.put_word-at.new.text c.put_word-at.result) words
           ∙ ap₂ (λ (s : List ℕ) (k : ℕ). over s k (text_from ms 1)) e.text_after e.value
           ∙ over-append d 0 first (text_from ms 1) room
-          ∙ ap (over d 0) (sym (text-first ms some)) }
+          ∙ ap (over d 0) (sym (text-first ms some));
+    }

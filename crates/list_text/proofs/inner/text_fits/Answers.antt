@@ -1,6 +1,6 @@
 -- `list_text::inner::text_fits` meets its contract. The loop keeps the answer: what is left of the list, in what is left of the room. Assumes nothing.
 use mathlib.Core.Path.{sym, ap, ◌∙◌}
-use Prim.Native.Nat.{ℕ, ◌-◌}
+use Prim.Native.Nat.{ℕ}
 use native.Mathlib.Omega.{arith}
 use lib.Dec.{leb, leb-zero}
 use lib.ListN.{get_or, drop, drop_of_length-le}

@@ -1,6 +1,5 @@
 -- `list_text::inner::word_end` meets its contract. The loop keeps the answer: what is left gives the same as the whole. Assumes nothing.
 use mathlib.Core.Path.{sym}
-use Prim.Native.Nat.{◌-◌}
 use native.Mathlib.Omega.{arith}
 use lib.Dec.{eqb}
 use borrow.Author.Tests.{eq-eqb, ne_eqb}

@@ -1,6 +1,6 @@
 -- `pieces::inner::all_differ` meets its contract. The loop's invariant: going on from the bits met gives the mask of the whole. Assumes nothing.
 use mathlib.Core.Path.{◌≡◌, sym, ap, ◌∙◌}
-use Prim.Native.Nat.{ℕ, ◌-◌}
+use Prim.Native.Nat.{ℕ}
 use lib.Count.{ones}
 use lib.Dec.{eqb}
 use lib.ListN.{length, drop_of_length-le}

@@ -1,6 +1,5 @@
 -- `pieces::inner::same_bytes` meets its contract. The loop keeps the answer: what is left gives the same as the whole. Assumes nothing.
 use mathlib.Core.Path.{◌∙◌}
-use Prim.Native.Nat.{◌-◌}
 use native.Mathlib.Omega.{arith}
 use Rattle.base.proofs.Steps.{same-sizes, same_step, same_stop, same_end}
 use Rattle.pieces.proofs.inner.same_bytes.Goals as goal

@@ -24,9 +24,9 @@ places-preserved c =
     let fits = corner_fits c.at_corner-a.result c.at_corner-b.result in
     let inner = c.pieces in
     let e : c.if-j-eq8.piece ≡ first_from fits 0 8 =
-    elim c.if-j-eq8.branch
-    [ then-j-eq8 w ↦ w.piece-is ∙ sym w.if-j-eq8.true ∙ sym (first-none fits 8 inner.j (omega (arith, w.if-j-eq8.true))) ∙ inner.invariant.1
-    | else-j-eq8+then-corner_fits w ↦ w.piece-is ∙ sym (first_found fits 8 inner.j (omega (arith, w.if-j-eq8.false, inner.invariant.0)) (sym w.corner_fits.ensures ∙ w.if-corner_fits.true)) ∙ inner.invariant.1
+    elim c.if-j-eq8.branch [
+      | then-j-eq8 w ↦ w.piece-is ∙ sym w.if-j-eq8.true ∙ sym (first-none fits 8 inner.j (omega (arith, w.if-j-eq8.true))) ∙ inner.invariant.1
+      | else-j-eq8+then-corner_fits w ↦ w.piece-is ∙ sym (first_found fits 8 inner.j (omega (arith, w.if-j-eq8.false, inner.invariant.0)) (sym w.corner_fits.ensures ∙ w.if-corner_fits.true)) ∙ inner.invariant.1
     ] in
     let x = c.at_corner.ensures in
     let y = c.at_corner-in-places.ensures in

@@ -24,9 +24,9 @@ places-preserved c =
     let fits = edge_fits c.at_edge-a.result c.at_edge-b.result in
     let inner = c.ways in
     let e : c.if-k-eq24.way' ≡ first_from fits 0 24 =
-    elim c.if-k-eq24.branch
-    [ then-k-eq24 w ↦ w.way'-is ∙ sym w.if-k-eq24.true ∙ sym (first-none fits 24 inner.k (omega (arith, w.if-k-eq24.true))) ∙ inner.invariant.1
-    | else-k-eq24+then-edge_fits w ↦ w.way'-is ∙ sym (first_found fits 24 inner.k (omega (arith, w.if-k-eq24.false, inner.invariant.0)) (sym w.edge_fits.ensures ∙ w.if-edge_fits.true)) ∙ inner.invariant.1
+    elim c.if-k-eq24.branch [
+      | then-k-eq24 w ↦ w.way'-is ∙ sym w.if-k-eq24.true ∙ sym (first-none fits 24 inner.k (omega (arith, w.if-k-eq24.true))) ∙ inner.invariant.1
+      | else-k-eq24+then-edge_fits w ↦ w.way'-is ∙ sym (first_found fits 24 inner.k (omega (arith, w.if-k-eq24.false, inner.invariant.0)) (sym w.edge_fits.ensures ∙ w.if-edge_fits.true)) ∙ inner.invariant.1
     ] in
     let p = edge-chosen s l.i _ _ _ c.at_edge-a.ensures c.at_edge-b.ensures e in
     let q = flip-chosen s l.i _ _ _ c.at_edge-a.ensures c.at_edge-b.ensures e in (

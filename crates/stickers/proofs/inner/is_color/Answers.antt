@@ -1,5 +1,5 @@
 -- `stickers::inner::is_color` meets its contract. Assumes nothing.
-use mathlib.Core.Logic.{◌⊎◌, inl, inr, ⊎_elim}
+use mathlib.Core.Logic.{inl, inr, ⊎_elim}
 use borrow.Author.Tests.{ne_eqb}
 use Rattle.stickers.specs.Reader.{is_color}
 use Rattle.stickers.proofs.inner.is_color.Goals as goal

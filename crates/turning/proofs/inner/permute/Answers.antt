@@ -1,6 +1,5 @@
 -- `turning::inner::permute` meets its contract. The loop's invariant: what is written is the front of the product. Assumes nothing.
 use mathlib.Core.Path.{◌≡◌, sym, ◌∙◌}
-use Prim.Native.Nat.{◌-◌}
 use native.Mathlib.Omega.{arith}
 use lib.ListN.{length, get_or, length-set, length-map}
 use Rattle.base.specs.Product.{compose}

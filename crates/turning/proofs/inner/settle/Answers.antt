@@ -1,7 +1,7 @@
 -- `turning::inner::settle` meets its contract. The loop's invariant: nothing is changed yet, and no place passed holds i. Assumes nothing.
 use mathlib.Core.Path.{sym, ap, ◌∙◌}
 use mathlib.Core.List.{List}
-use Prim.Native.Nat.{ℕ, ◌-◌}
+use Prim.Native.Nat.{ℕ}
 use native.Mathlib.Omega.{arith}
 use lib.ListN.{length, get_or}
 use Rattle.base.proofs.Selection.{settle-fixed, settle-none, settle-found}

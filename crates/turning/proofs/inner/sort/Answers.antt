@@ -1,6 +1,5 @@
 -- `turning::inner::sort` meets its contract. The loop's invariant: the swaps made and those that are left make the swaps of the whole. Assumes nothing.
 use mathlib.Core.Path.{◌∙◌}
-use Prim.Native.Nat.{◌-◌}
 use native.Mathlib.Omega.{arith}
 use lib.ListN.{length, drop}
 use Rattle.base.proofs.Selection.{swaps-step, swaps-end, settled-le}

@@ -1,6 +1,5 @@
 -- `turning::inner::twist` meets its contract. The loop's invariant: what is written is the front of the twists. Assumes nothing.
 use mathlib.Core.Path.{◌≡◌, sym, ◌∙◌}
-use Prim.Native.Nat.{◌-◌}
 use native.Mathlib.Omega.{arith}
 use lib.ListN.{length, length-set}
 use Rattle.base.specs.Product.{twisted}

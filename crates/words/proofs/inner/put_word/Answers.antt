@@ -38,7 +38,10 @@ returns c =
     let w = word_two a.m c.if-m-eq0.false in
     let n = ap length w in
     let room : a.at < length d = omega (arith, c.requires.1) in
-    let next : a.at + 1 < length (set d a.at x) = omega (arith, c.requires.1, length-set d a.at x) in record { value = ap (λ (k : ℕ). a.at + k) (sym n); text_after = sym (over_nothing (set (set d a.at x) (a.at + 1) y) (a.at + 1 + 1))
+    let next : a.at + 1 < length (set d a.at x) = omega (arith, c.requires.1, length-set d a.at x) in record {
+      value = ap (λ (k : ℕ). a.at + k) (sym n);
+      text_after = sym (over_nothing (set (set d a.at x) (a.at + 1) y) (a.at + 1 + 1))
           ∙ over-cons (set d a.at x) (a.at + 1) y [] next
           ∙ over-cons d a.at x (y ∷ []) room
-          ∙ sym (ap (over d a.at) w) }
+          ∙ sym (ap (over d a.at) w);
+    }
