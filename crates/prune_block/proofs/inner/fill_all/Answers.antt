@@ -1,7 +1,6 @@
 -- `prune_block::inner::fill_all` meets its contract. The loop's invariant: the tables before t are filled, and `missing` says whether one of them has a pair
 -- out of reach. Assumes nothing.
 use mathlib.Core.Path.{◌≡◌, ◌∙◌}
-use Prim.Native.Nat.{◌-◌}
 use native.Mathlib.Omega.{arith}
 use Rattle.pruning_table.proofs.Filling.{filled_more, missing-here, missing-still}
 use Rattle.pair_table.proofs.Held.{yes_of, no_of}

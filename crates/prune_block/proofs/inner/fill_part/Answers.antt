@@ -1,58 +1,53 @@
 -- `prune_block::inner::fill_part` meets its contract. Assumes nothing.
--- the numbers that the code has found for table t
 use native.Mathlib.Omega.{arith}
 use Rattle.pruning_table.proofs.Filling.{done-fills, unreached-fills, no-entry}
 use Rattle.pruning_table.proofs.Parts.{Spot, spot-end1, spot-end2, spot-end}
+use Rattle.prune_block.proofs.inner.fill_part.Goals.{After-prune_begins-at}
 use Rattle.prune_block.proofs.inner.fill_part.Goals as goal
 
-abbrev start : tie.After-prune-begins → tie.Start
-start c = c.before.before.before.before.before.before.before.before.before.before
-
-spot : (c : tie.After-prune-begins) →
-    Spot (start c).args.t c.before.before.before.before.before.before.before.first_of.result c.before.before.before.before.before.before.second-of.result
-    c.before.before.before.before.before.columns_of.result c.before.before.before.before.rows_of_lem.result c.before.before.before.rows-of2.result
-    c.before.before.move-begins.result c.before.move-begins2.result c.prune-begins.result
+-- the numbers that the code has found for table t
+spot : (c : After-prune_begins-at) →
+    Spot c.args.t c.first_of-a.result c.second_of-b.result c.columns_of-k.result c.rows_of-n1.result c.rows_of-n2.result c.move_begins-at1.result
+    c.move_begins-at2.result c.prune_begins-at.result
 spot c =
-    let rows2 = c.before.before.before in
-    let second = rows2.before.before.before in
     record {
-      below = (start c).requires.0;
-      above = (start c).requires.1;
-      first = second.before.first_of.ensures;
-      second = second.second-of.ensures;
-      columns-are = rows2.before.before.columns_of.ensures;
-      rows1 = rows2.before.rows_of_lem.ensures;
-      rows2 = rows2.rows-of2.ensures;
-      at1 = c.before.before.move-begins.ensures;
-      at2 = c.before.move-begins2.ensures;
-      at = c.prune-begins.ensures;
+      below = c.requires.0;
+      above = c.requires.1;
+      first = c.first_of-a.ensures;
+      second = c.second_of-b.ensures;
+      columns-are = c.columns_of-k.ensures;
+      rows1 = c.rows_of-n1.ensures;
+      rows2 = c.rows_of-n2.ensures;
+      at1 = c.move_begins-at1.ensures;
+      at2 = c.move_begins-at2.ensures;
+      at = c.prune_begins-at.ensures;
     }
 
 pub slice_bounds-get_prune_table-end : goal.slice_bounds-get_prune_table-end
-slice_bounds-get_prune_table-end c = omega (arith, spot-end1 (spot c), (start c).requires.2.six)
+slice_bounds-get_prune_table-end c = omega (arith, spot-end1 (spot (goal.at.slice_bounds-get_prune_table-end c).After-prune_begins-at), c.requires.2.six)
 
 pub slice_bounds-get_prune_table-end-2 : goal.slice_bounds-get_prune_table-end-2
-slice_bounds-get_prune_table-end-2 c = omega (arith, spot-end2 (spot c.before), (start c.before).requires.2.six)
+slice_bounds-get_prune_table-end-2 c = omega (arith, spot-end2 (spot (goal.at.slice_bounds-get_prune_table-end-2 c).After-prune_begins-at), c.requires.2.six)
 
 pub overflow_add-at : goal.overflow_add-at
-overflow_add-at c = omega (arith, spot-end (spot c.before.before))
+overflow_add-at c = omega (arith, spot-end (spot (goal.at.overflow_add-at c).After-prune_begins-at))
 
 pub slice_bounds-get_prune_table-end-3 : goal.slice_bounds-get_prune_table-end-3
-slice_bounds-get_prune_table-end-3 c = omega (arith, spot-end (spot c.before.before), (start c.before.before).requires.2.four)
+slice_bounds-get_prune_table-end-3 c = omega (arith, spot-end (spot (goal.at.slice_bounds-get_prune_table-end-3 c).After-prune_begins-at), c.requires.2.four)
 
 pub returns-in-Done : goal.returns-in-Done
 returns-in-Done c =
-    let s = start c.before.before.before.before.before.before.before.before in
-    done-fills (spot c.before.before.before.before.before.before.before.before) s.args.moves.now s.args.prunes.now s.pre.2 s.pre.3 c.get_prune_table-built.new.tab c.get_prune_table-built.auto.tab
-    (rw c.enum_told-1.given.1 at c.get_prune_table-built.ensures)
+    let s = spot (goal.at.returns-in-Done c).After-prune_begins-at in
+    let d = done-fills s c.args.moves.now c.args.prunes.now c.requires.2 c.requires.3 c.get_prune_table-built.new.tab c.get_prune_table-built.auto.tab c.in-Done.ensures in
+    record { refilled = d.0; decides = d.1 }
 
 pub returns-in-Unreached : goal.returns-in-Unreached
 returns-in-Unreached c =
-    let s = start c.before.before.before.before.before.before.before.before in
-    unreached-fills (spot c.before.before.before.before.before.before.before.before) s.args.moves.now s.args.prunes.now s.pre.2 s.pre.3 c.get_prune_table-built.new.tab c.get_prune_table-built.auto.tab
-    (rw c.enum_told-in-Unreached-1.given.1 at c.get_prune_table-built.ensures)
+    let s = spot (goal.at.returns-in-Unreached c).After-prune_begins-at in
+    let d = unreached-fills s c.args.moves.now c.args.prunes.now c.requires.2 c.requires.3 c.get_prune_table-built.new.tab c.get_prune_table-built.auto.tab c.in-Unreached.ensures in
+    record { refilled = d.0; decides = d.1 }
 
 pub returns-in-Entry : goal.returns-in-Entry
 returns-in-Entry c =
-    let s = start c.before.before.before.before.before.before.before.before in
-    absurd (no-entry (spot c.before.before.before.before.before.before.before.before) s.args.moves.now s.args.prunes.now s.pre.2 s.pre.3 (rw c.enum_told-in-Entry-1.given.1 at c.get_prune_table-built.ensures))
+    let s = spot (goal.at.returns-in-Entry c).After-prune_begins-at in
+    absurd (no-entry s c.args.moves.now c.args.prunes.now c.requires.2 c.requires.3 c.in-Entry.ensures)
