@@ -5,10 +5,6 @@ use native.Mathlib.Omega.{arith}
 use Rattle.move_row.specs.Tables.{table_at, true_table, first_off}
 use Rattle.pruning_table.proofs.Parts.{slice_is, len_is}
 use Rattle.table_check.proofs.Parts.{move-fails, move-holds}
-use Rattle.move_row.proofs.inner.columns_of.Reads as columns-of-reads
-use Rattle.move_table.proofs.inner.first_bad.Reads as first-bad-reads
-use Rattle.move_row.proofs.inner.rows_of.Reads as rows-of-reads
-use Rattle.pruning_table.proofs.inner.move_begins.Reads as move-begins-reads
 use Rattle.table_check.proofs.inner.check_move_table.Goals as goal
 
 pub returns-then-e-len : goal.returns-then-e-len

@@ -1,11 +1,9 @@
 -- `table_check::inner::check_prune_tables` meets its contract. The loop's invariant: all pruning tables before t are right. Assumes nothing.
-use Prim.Native.Nat.{◌-◌}
 use native.Mathlib.Omega.{arith}
-use Rattle.table_check.specs.declared.Checked.TheVariants as checked
 use Rattle.table_check.proofs.Parts.{prune-rule, in-more}
 use Rattle.table_check.proofs.inner.check_prune_tables.Goals as goal
 
 pub loop-t-preserved : goal.loop-t-preserved
 loop-t-preserved c =
     let l = c.loop-t in
-    (omega arith, omega arith, in-more _ _ 6 l.t l.invariant.2 c.enum_told-1.given.1 (prune-rule _ _ _ l.invariant.0 c.check_prune_table.result c.check_prune_table.ensures))
+    (omega arith, omega arith, in-more _ _ 6 l.t l.invariant.2 c.in-Holds.is (prune-rule _ _ _ l.invariant.0 c.check_prune_table.result c.check_prune_table.ensures))
