@@ -27,6 +27,7 @@ extern "C" {
 #define TSUNGHAWI_CUBE 40          /* bytes of a cube */
 #define TSUNGHAWI_STICKERS 54      /* letters of a picture: U R F D L B, nine each */
 #define TSUNGHAWI_LIST 31          /* bytes for each list that a search finds */
+#define TSUNGHAWI_JUDGED 64        /* bytes for what the judge says */
 #define TSUNGHAWI_MOVES 891780     /* entries, 16 bits each, of move tables 0 to 5 in one block */
 #define TSUNGHAWI_PRUNES 4031685   /* bytes of pruning tables 6 to 9 in one block */
 
@@ -49,7 +50,7 @@ extern "C" {
 #define TSUNGHAWI_REFUSED_UNREACHED 14   /* a pruning table can't be built: some pair is out of reach, and holds 255 */
 #define TSUNGHAWI_REFUSED_PICTURE 15     /* the stickers differ from the picture of the cube read */
 
-/* ---- the words that tsunghawi_check_tables, tsunghawi_solve and tsunghawi_judge return */
+/* ---- the words that tsunghawi_check_tables and tsunghawi_solve return */
 
 /* The refusal's number, 0 for none. */
 #define TSUNGHAWI_NUMBER(word) ((uint8_t)((word) & 0xFF))
@@ -57,11 +58,6 @@ extern "C" {
 /* Of a check that is refused with 13: the lowest bad table, and its lowest bad entry. */
 #define TSUNGHAWI_TABLE(word) ((uint8_t)((word) >> 8 & 0xFF))
 #define TSUNGHAWI_ENTRY(word) ((uint32_t)((word) >> 16))
-
-/* Of a judgement that isn't refused: 1 where the moves solve the cube, else 0; how many moves there are; their strokes. */
-#define TSUNGHAWI_JUDGED_SOLVED(word) ((uint8_t)((word) >> 8 & 0xFF))
-#define TSUNGHAWI_JUDGED_MOVES(word) ((uint8_t)((word) >> 16 & 0xFF))
-#define TSUNGHAWI_JUDGED_STROKES(word) ((uint32_t)((word) >> 32))
 
 /* Of a search: how it came out, the lengths of the two lists, and the entries made, whatever came out. */
 #define TSUNGHAWI_KIND(word) ((uint8_t)((word) >> 8 & 0xFF))
@@ -131,10 +127,10 @@ uint8_t tsunghawi_scramble_from_str(const uint8_t *text, size_t text_len, uint8_
    shorter. Three bytes a move are always enough. */
 uint8_t tsunghawi_scramble_to_str(const uint8_t *list, size_t list_len, uint8_t *text, size_t text_len, size_t *count);
 
-/* Whether moves solve a cube: input is a line of stickers and a line of moves, of 1,024 bytes at most. The word has the refusal's number, and
-   where that is 0 what TSUNGHAWI_JUDGED_SOLVED, TSUNGHAWI_JUDGED_MOVES and TSUNGHAWI_JUDGED_STROKES read from it. Refused: 10 for a longer
-   input; then the stickers' 1, 2, 3 or 15; then the moves' 7; then 10 for more than 255 moves. */
-uint64_t tsunghawi_judge(const uint8_t *input, size_t input_len);
+/* Whether moves solve a cube: input is a line of stickers and a line of moves, of 1,024 bytes at most. Out, of 64 bytes, gets the text and
+   zeros after it: `moves N`, `strokes N` and `solved yes` or `solved no`, a line each, or `refused N`; count gets the text's length.
+   Refused: 10 for another length of out alone. What is refused of the input is in the text. */
+uint8_t tsunghawi_judge(const uint8_t *input, size_t input_len, uint8_t *out, size_t out_len, size_t *count);
 
 /* ---- coordinates: kind 0 co, 1 eo, 2 e_combo, 3 cp, 4 ud_ep, 5 e_ep, 6 ep; 8 places for 0 and 3, else 12 */
 

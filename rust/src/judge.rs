@@ -1,22 +1,13 @@
 //! The judge.
+use crate::lent::lend_list;
 use crate::{raw, Refusal};
 
-/// What moves do to a cube.
-#[derive(Clone, Copy, Debug, PartialEq, Eq)]
-pub struct Judged {
-    /// How many moves there are.
-    pub moves: u8,
-    /// Their strokes.
-    pub strokes: u32,
-    /// Whether they solve the cube.
-    pub solved: bool,
-}
+/// Bytes for what the judge says.
+pub const JUDGED: usize = 64;
 
-/// Whether moves solve a cube, for an input of a line of stickers and a line of moves.
-pub fn judge(input: &[u8]) -> Result<Judged, Refusal> {
-    // SAFETY: the pointer comes with the length of live memory.
-    let word = unsafe { raw::tsunghawi_judge(input.as_ptr(), input.len()) };
-    Refusal::of(word)?;
-    let [_, solved, moves, ..] = word.to_le_bytes();
-    Ok(Judged { moves, strokes: (word >> 32) as u32, solved: solved == 1 })
+/// Whether moves solve a cube: what the program `judge` prints for an input of a line of stickers and a line of moves, a refusal too.
+pub fn judge(input: &[u8]) -> Result<String, Refusal> {
+    // SAFETY: the pointers come with the lengths of live memory.
+    let text = lend_list(JUDGED, |out, n, k| unsafe { raw::tsunghawi_judge(input.as_ptr(), input.len(), out, n, k) });
+    text.map(|bytes| bytes.into_iter().map(char::from).collect())
 }

@@ -29,7 +29,7 @@ mod tables;
 
 pub use coordinate::{arrangement, index, Kind};
 pub use cube::{Counts, Cube, CUBE, STICKERS};
-pub use judge::{judge, Judged};
+pub use judge::{judge, JUDGED};
 pub use moves::{format_moves, get_inverse, is_inverse, is_move_available, is_same_layer, parse_moves};
 pub use refusal::Refusal;
 pub use search::{Answer, LIST};

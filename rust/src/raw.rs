@@ -35,7 +35,7 @@ extern "C" {
         text_len: usize,
         count: *mut usize,
     ) -> u8;
-    pub fn tsunghawi_judge(input: *const u8, input_len: usize) -> u64;
+    pub fn tsunghawi_judge(input: *const u8, input_len: usize, out: *mut u8, out_len: usize, count: *mut usize) -> u8;
     pub fn tsunghawi_arrangement_to_index(kind: u8, places: *const u8, places_len: usize, number: *mut u32) -> u8;
     pub fn tsunghawi_index_to_arrangement(kind: u8, number: u32, places: *mut u8, places_len: usize) -> u8;
     pub fn tsunghawi_get_move_table(t: u8, table: *mut u16, table_len: usize) -> u8;

@@ -1,5 +1,5 @@
 //! The paper's known examples.
-use tsunghawi::{arrangement, index, judge, parse_moves, Cube, Judged, Kind, Refusal};
+use tsunghawi::{arrangement, index, judge, parse_moves, Cube, Kind, Refusal};
 
 const SOLVED: &[u8] = b"UUUUUUUUURRRRRRRRRFFFFFFFFFDDDDDDDDDLLLLLLLLLBBBBBBBBB";
 const AFTER_U: &[u8] = b"UUUUUUUUUBBBRRRRRRRRRFFFFFFDDDDDDDDDFFFLLLLLLLLLBBBBBB";
@@ -79,10 +79,9 @@ fn plain_fills_in_and_strict_refuses() -> Result<(), Refusal> {
 }
 
 #[test]
-fn the_judge_says_whether_moves_solve_a_cube() -> Result<(), Refusal> {
+fn the_judge_says_what_the_program_prints() -> Result<(), Refusal> {
     let input = [AFTER_U, b"\nU'\n"].concat();
-    assert_eq!(judge(&input)?, Judged { moves: 1, strokes: 1, solved: true });
-    assert_eq!(judge(AFTER_U)?, Judged { moves: 0, strokes: 0, solved: false });
-    assert_eq!(judge(&[b'U'; 54]).map_err(Refusal::number), Err(15));
+    assert_eq!(judge(&input)?, "moves 1\nstrokes 1\nsolved yes\n");
+    assert_eq!(judge(&[b'U'; 54])?, "refused 15\n");
     Ok(())
 }

@@ -1,6 +1,6 @@
 //! include/tsunghawi.h against this crate: the lengths, and the parameters of each function in both.
 use std::collections::BTreeMap;
-use tsunghawi::{CUBE, LIST, MOVES, PRUNES, STICKERS};
+use tsunghawi::{CUBE, JUDGED, LIST, MOVES, PRUNES, STICKERS};
 
 const HEADER: &str = include_str!("../../include/tsunghawi.h");
 const RAW: &str = include_str!("../src/raw.rs");
@@ -17,6 +17,7 @@ fn lengths_are_those_of_c() {
         ("CUBE", CUBE),
         ("STICKERS", STICKERS),
         ("LIST", LIST),
+        ("JUDGED", JUDGED),
         ("MOVES", MOVES),
         ("PRUNES", PRUNES),
     ];

@@ -143,15 +143,15 @@ pub fn count_edge_twist(c: CubieCube) -> u8
 pub fn count_corner_perm(c: CubieCube) -> u8
     ensures { result ≡ corner_perm c }
 {
-    let cp = c.cp;
-    count_swaps(&cp)
+    let mut cp = c.cp;
+    count_swaps(&mut cp)
 }
 
 pub fn count_edge_perm(c: CubieCube) -> u8
     ensures { result ≡ edge_perm c }
 {
-    let ep = c.ep;
-    count_swaps(&ep)
+    let mut ep = c.ep;
+    count_swaps(&mut ep)
 }
 
 pub fn is_solvable(c: CubieCube) -> bool

@@ -40,8 +40,10 @@ number n = n ∷ bytes_of solved_cube
 -- moves 0, 6 and 12 are U, R and F, 8 and 2 are R' and U'; the letters U R F D L B are 85 82 70 68 76 66
 unfoldable pub examples : List Example
 examples =
-    -- solved picture: no refusal, all coordinates 0
-    is (strict_refusal solved_face ∷ seven_of (read_strict solved_face).cube) (replicate 8 0)
+    -- solved picture: all coordinates 0
+    is (seven_of (read_strict solved_face).cube) (replicate 7 0)
+    -- and no refusal
+    ∷ is (strict_refusal solved_face ∷ []) (0 ∷ [])
     -- after U: cp 15120, ud_ep 15120, e_ep 0
     ∷ is (phase2_of (turn solved_cube 0)) (15120 ∷ 15120 ∷ 0 ∷ [])
     -- after R: co 410, eo 0, e_combo 139

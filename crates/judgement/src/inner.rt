@@ -38,7 +38,7 @@ fn score_list(cube: CubieCube, moves: &[u8]) -> Score
     Score {
         refusal: 0,
         moves: moves.len(),
-        strokes: scramble::inner::strokes(moves),
+        strokes: scramble::strokes(moves),
         solved: cubie::inner::is_solved(after),
     }
 }

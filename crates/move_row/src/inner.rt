@@ -1,5 +1,5 @@
 // What stands below a row of a move table: the cubes of the moves, rows and columns, and the arrangement of a row.
-ghost use Rattle.std.specs.Prelude.{◌≡◌, ◌++◌, ◌<◌, get_or, replicate};
+ghost use Rattle.std.specs.Prelude.{◌≡◌, ◌++◌, ◌<◌, get_or, replicate, take};
 ghost use Rattle.move_row.specs.Tables.{table_at, columns, cubes_to, row_places};
 
 use columns::inner::{phase1_move, phase2_move};
@@ -77,7 +77,7 @@ fn widened(a: [u8; 8]) -> [u8; 12]
 }
 
 // The arrangement of row i, and 0 at the places that it hasn't.
-pub fn row_places(t: u8, i: u16) -> [u8; 12]
+fn padded_row(t: u8, i: u16) -> [u8; 12]
     requires { (t < 6) × (i < (table_at t).kind.count) }
     ensures { result ≡ row_places (table_at t).kind i }
 {
@@ -89,4 +89,13 @@ pub fn row_places(t: u8, i: u16) -> [u8; 12]
         4 => index_to_ud_ep(UdEp(i)),
         _ => index_to_e_ep(EEp(i)),
     }
+}
+
+// The arrangement of row i, in as many of the first places as it has, and 0 at those that it hasn't.
+pub fn row_places(t: u8, i: u16) -> [u8; 12]
+    requires { (t < 6) × (i < (table_at t).kind.count) }
+    ensures value { result ≡ row_places (table_at t).kind i }
+    ensures arrangement { take (table_at t).kind.places result ≡ (table_at t).kind.arrangement i }
+{
+    padded_row(t, i)
 }

@@ -1,17 +1,13 @@
--- The six tables: how many rows, columns and entries they have, and that the arrangement of a row is in its domain. Assumes nothing.
+-- The six tables: how many rows, columns and entries they have. Assumes nothing.
 use mathlib.Core.Path.{◌≡◌, refl, sym, ap, ap₂, ◌∙◌}
-use mathlib.Core.List.{List}
 use Prim.Native.Nat.{ℕ, ◌+◌, ◌-◌, ◌*◌, ◌≤◌, ◌<◌}
 use native.Mathlib.Nat.{suc-mul, mul-le-mul_right}
 use native.Mathlib.Omega.{arith}
-use lib.ListN.{get_or, take, replicate}
-use lib.Seq.{take_at}
+use lib.ListN.{get_or}
 use Rattle.base.specs.Lists.{Under}
 use Rattle.base.proofs.Tests.{in_range-under, under_at}
 use Rattle.moves.specs.Moves.{all_moves, phase2_moves}
-use Rattle.numbering.specs.Kinds.{Kind, Numbered}
-use Rattle.numbering.proofs.Numbers.{co-numbered, eo-numbered, e-combo-numbered, cp-numbered, ud-ep-numbered, e-ep-numbered}
-use Rattle.move_row.specs.Tables.{table_at, columns, size, Domain, row_places}
+use Rattle.move_row.specs.Tables.{table_at, columns, size}
 use Rattle.move_row.proofs.Six.{by-table}
 
 pub few-rows : (t : ℕ) → t < 6 → (table_at t).kind.count ≤ 40320
@@ -45,18 +41,3 @@ column-moves t j h k =
     let first = in_range-under 18 all_moves refl in
     let second = in_range-under 18 phase2_moves refl in
     under_at 18 (table_at t).moves j (by-table (λ t. Under 18 (table_at t).moves) first first first second second second t h) k
-
--- the arrangement of a row is in its domain
-in-domain : (k : Kind) → Numbered k → (i : ℕ) → i < k.count → Domain k (k.arrangement i)
-in-domain k n i h = let b = n.back i h in record { places = b.0; fits = b.1 }
-
-pub row-domain : (t i : ℕ) → t < 6 → i < (table_at t).kind.count → Domain (table_at t).kind ((table_at t).kind.arrangement i)
-row-domain t i h =
-    by-table (λ t. i < (table_at t).kind.count → Domain (table_at t).kind ((table_at t).kind.arrangement i)) (in-domain _ co-numbered i) (in-domain _ eo-numbered i) (in-domain _ e-combo-numbered i) (in-domain _ cp-numbered i) (in-domain _ ud-ep-numbered i) (in-domain _ e-ep-numbered i) t h
-
--- what a row's places hold in front is its arrangement
-pub row-front : (t i : ℕ) → t < 6 → i < (table_at t).kind.count → (r : List ℕ) → r ≡ row_places (table_at t).kind i
-    → take (table_at t).kind.places r ≡ (table_at t).kind.arrangement i
-row-front t i h l r e =
-    let k = (table_at t).kind in
-    ap (take k.places) e ∙ take_at (k.arrangement i) (replicate (12 - k.places) 0) k.places (row-domain t i h l).places

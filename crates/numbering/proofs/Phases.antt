@@ -7,10 +7,10 @@ use mathlib.Core.Logic.{◌↔◌}
 use mathlib.Core.List.{List, [], ◌∷◌, ◌++◌, map, map-append}
 use Prim.Native.Nat.{ℕ, zero, suc, ◌+◌, ◌-◌, ◌%◌, ◌≤◌, ◌<◌}
 use native.Mathlib.Omega.{arith}
-use lib.Dec.{ltb, leb, eqb}
+use lib.Dec.{leb, eqb}
 use lib.ListN.{length, get_or, take, drop, replicate, length-map, length-take, length-drop, take-append-drop}
 use lib.Seq.{get_or-take, get_or-drop, take_all}
-use borrow.Author.Tests.{eqb-true, leb-true, ltb-true}
+use borrow.Author.Tests.{eqb-true, leb-true}
 use Rattle.base.specs.Combo.{choose, combo_number, combo_of, mask}
 use Rattle.base.specs.Digits.{digits_of}
 use Rattle.base.specs.Lists.{all_below, Each, Under, in_range, total}

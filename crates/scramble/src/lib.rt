@@ -3,12 +3,11 @@
 
 ghost use Rattle.std.specs.Prelude.{[], ◌∷◌, ◌≡◌};
 ghost use Rattle.words.specs.Answers.{parsed_move, parsed_text, parsed_room, written_text, written_room};
+ghost use Rattle.words.specs.Strokes.{strokes_of};
 ghost use Rattle.words.specs.Text.{word_of, text_of};
 
 use moves::Number;
 use words::{Parsed, Written};
-
-pub mod inner;
 
 // The move that a word names.
 pub fn move_from_str(word: &[u8]) -> Number
@@ -57,4 +56,11 @@ pub fn scramble_to_str(moves: &[u8], text: &mut [u8]) -> Written
         return Written::Refused(10);
     }
     Written::Bytes(list_text::inner::put_text(moves, text))
+}
+
+// The strokes of a list, shown to the therapist.
+pub fn strokes(moves: &[u8]) -> usize
+    ensures { result ≡ strokes_of moves.now }
+{
+    moves.len()
 }

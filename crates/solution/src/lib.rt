@@ -87,12 +87,12 @@ fn put_turns(one: &[u8], two: &[u8], out: &mut [u8]) -> usize
 
 // Writes the lines of the five numbers from `at` on; the place after them.
 fn put_counts(one: &[u8], two: &[u8], count: u32, out: &mut [u8], at: usize) -> usize
-    requires { (length one.now ≤ 31) × (length two.now ≤ 31) × (at + length (count_lines one.now two.now count) ≤ length out.old) × Under 18 one.now × Under 18 two.now }
+    requires { (length one.now ≤ 31) × (length two.now ≤ 31) × (at + length (count_lines one.now two.now count) ≤ length out.old) }
     ensures value { result ≡ at + length (count_lines one.now two.now count) }
     ensures out_after { out.new ≡ over out.old at (count_lines one.now two.now count) }
 {
     let both = (one.len() + two.len()) as u64;
-    let strokes = (scramble::inner::strokes(one) + scramble::inner::strokes(two)) as u64;
+    let strokes = (scramble::strokes(one) + scramble::strokes(two)) as u64;
     let word = PHASE1;
     let a = put_line(&word, one.len() as u64, out, at);
     let word = PHASE2;

@@ -11,7 +11,7 @@ use borrow.Author.Tests.{eqb-true, eqb-false, eq-eqb, ne_eqb}
 use Rattle.base.specs.Lists.{Under}
 use Rattle.base.proofs.Steps.{written-more, written_all}
 use Rattle.checksum.specs.Sum.{bytes16}
-use Rattle.table_file.specs.File.{entries16, two_each, room_number, bytes_left, entries_left, file_of}
+use Rattle.table_file.specs.File.{entries16, two_each, bytes_left, entries_left, file_of}
 
 -- ---- lengths and places
 
@@ -83,14 +83,14 @@ module _ (bs out : List ℕ) (i : ℕ) (l : length bs ≡ 2 * length out) (h : i
 -- ---- what a call leaves
 
 module _ (xs bs : List ℕ) where
-  pub other-room : two_each xs bs ≡ false → (10 ≡ room_number xs bs) × (bs ≡ bytes_left xs bs) × (xs ≡ entries_left bs xs)
+  pub other-room : two_each xs bs ≡ false → (false ≡ two_each xs bs) × (bs ≡ bytes_left xs bs) × (xs ≡ entries_left bs xs)
   other-room e = rw e (refl, refl, refl)
 
   module _ (e : two_each xs bs ≡ true) (out : List ℕ) (i : ℕ) where
-    pub bytes-all : length xs ≤ i → length out ≡ 2 * length xs → take (2 * i) out ≡ take (2 * i) (bytes16 xs) → (0 ≡ room_number xs bs) × (out ≡ bytes_left xs bs)
+    pub bytes-all : length xs ≤ i → length out ≡ 2 * length xs → take (2 * i) out ≡ take (2 * i) (bytes16 xs) → (true ≡ two_each xs bs) × (out ≡ bytes_left xs bs)
     bytes-all h l w = let f : out ≡ bytes16 xs = written_all out (bytes16 xs) (2 * i) (bytes-length xs ∙ sym l) w (omega arith) in rw e (refl, f)
 
-    pub entries-all : length xs ≤ i → length out ≡ length xs → take i out ≡ take i (entries16 bs) → (0 ≡ room_number xs bs) × (out ≡ entries_left bs xs)
+    pub entries-all : length xs ≤ i → length out ≡ length xs → take i out ≡ take i (entries16 bs) → (true ≡ two_each xs bs) × (out ≡ entries_left bs xs)
     entries-all h l w =
         let n : length (entries16 bs) ≡ length out = entries-length bs (length xs) (eqb-true _ _ e) ∙ sym l in
         let f : out ≡ entries16 bs = written_all out (entries16 bs) i n w (omega arith) in

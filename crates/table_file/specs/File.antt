@@ -13,10 +13,6 @@ entries16 (low ∷ high ∷ bytes) = (low + 256 * high) ∷ entries16 bytes
 abbrev pub two_each : List ℕ → List ℕ → Bool
 two_each entries bytes = eqb (length bytes) (2 * length entries)
 
--- "lent slice of the wrong length" is 10
-abbrev pub room_number : List ℕ → List ℕ → ℕ
-room_number entries bytes = pick (two_each entries bytes) 0 10
-
 -- what the lent bytes hold after the call, and the lent entries: where the lengths don't fit, what they held
 abbrev pub bytes_left : List ℕ → List ℕ → List ℕ
 bytes_left entries bytes = pick (two_each entries bytes) (bytes16 entries) bytes

@@ -1,8 +1,19 @@
--- What a call of the judge returns: one word, and nothing lent. Assumes nothing: these are definitions.
-use Rattle.std.specs.Prelude.{List, ℕ, ◌+◌, ◌*◌, eqb}
+-- What a call of the judge returns, and leaves in the bytes and the count that are lent; and the same in one word, with nothing lent.
+-- Assumes nothing: these are definitions.
+use Rattle.std.specs.Prelude.{List, ℕ, ◌+◌, ◌*◌, eqb, length}
 use Rattle.base.specs.Lists.{pick, bit}
-use Rattle.judgement.specs.Judge.{scored}
+use Rattle.judgement.specs.Judge.{printed, scored}
 use Rattle.judgement.specs.declared.Score.{Score}
+
+-- a room of another length than 64 is refused with 10; what is judged is not: its refusal is printed
+unfoldable pub judge_number : List ℕ → ℕ
+judge_number room = pick (eqb (length room) 64) 0 10
+
+unfoldable pub judge_room : List ℕ → List ℕ → List ℕ
+judge_room input room = pick (eqb (length room) 64) (printed input).text room
+
+unfoldable pub judge_count : List ℕ → List ℕ → ℕ → ℕ
+judge_count input room before = pick (eqb (length room) 64) (printed input).len before
 
 -- the refusal's number in the low byte; where it is 0, solved in bits 8 to 15, the moves in bits 16 to 23, the strokes from bit 32 on
 unfoldable pub score_word : Score → ℕ

@@ -7,7 +7,7 @@ ghost use Rattle.calls.specs.Calls.{Leaves};
 ghost use Rattle.stickers.specs.Reader.{read_plain, read_strict};
 ghost use Rattle.words.specs.Answers.{parsed_text, parsed_room, written_text, written_room};
 ghost use Rattle.words.specs.Text.{text_of};
-ghost use Rattle.texts.specs.Judge.{judge_word};
+ghost use Rattle.texts.specs.Judge.{judge_number, judge_room, judge_count, judge_word};
 ghost use Rattle.texts.specs.Stickers.{face_left, read_call, picture_call};
 ghost use Rattle.texts.specs.Text.{parsed_number, parsed_count, written_number, written_count};
 
@@ -104,8 +104,24 @@ pub fn scramble_to_str(list: &[u8], text: &mut [u8], count: &mut usize) -> u8
     }
 }
 
+// Whether moves solve a cube: what the program `judge` prints for `input`, in the first of 64 bytes, and how many they are.
+pub fn judge(input: &[u8], out: &mut [u8], count: &mut usize) -> u8
+    ensures value { result ≡ judge_number out.old }
+    ensures out_after { out.new ≡ judge_room input.now out.old }
+    ensures count_after { count.new ≡ judge_count input.now out.old count.old }
+{
+    if out.len() != 64 {
+        return 10;
+    }
+    let said = judgement::judge(input);
+    let text = said.text;
+    copy_in(&text, out, 0);
+    *count = said.len;
+    0
+}
+
 // Whether moves solve a cube: the refusal's number or, where it is 0, whether they do, how many they are and their strokes, in one word.
-pub fn judge(input: &[u8]) -> u64
+pub fn judge_word(input: &[u8]) -> u64
     ensures { result ≡ judge_word input.now }
 {
     let score = judgement::inner::score(input);

@@ -4,7 +4,6 @@ ghost use Rattle.base.specs.Lists.{Under, total};
 ghost use Rattle.base.specs.Parity.{swaps, Settled};
 ghost use Rattle.base.specs.Product.{compose, twisted};
 
-use pieces::inner::copy_in;
 
 // One place of the selection loop: where place `i` does not hold `i`, it is swapped with the first later place that does.
 fn settle(p: &mut [u8], i: usize) -> u8
@@ -28,8 +27,8 @@ fn settle(p: &mut [u8], i: usize) -> u8
     0
 }
 
-// Sorts the working copy `p`, and counts the swaps.
-fn sort(p: &mut [u8]) -> u8
+// The swaps that sort the working copy `p`: their parity is that of the arrangement.
+pub fn count_swaps(p: &mut [u8]) -> u8
     requires { length p.old ≤ 12 }
     ensures { result ≡ swaps p.old }
 {
@@ -40,16 +39,6 @@ fn sort(p: &mut [u8]) -> u8
         i += 1;
     }
     count
-}
-
-// The swaps that sort `p`: their parity is that of the arrangement.
-pub fn count_swaps(p: &[u8]) -> u8
-    requires { length p.now ≤ 12 }
-    ensures { result ≡ swaps p.now }
-{
-    let mut copy = [0u8; 12];
-    copy_in(p, &mut copy, 0);
-    sort(&mut copy[..p.len()])
 }
 
 // The turns that are left to bring each of `s` to 0 modulo `k`.

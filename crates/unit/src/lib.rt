@@ -10,7 +10,7 @@ ghost use Rattle.stickers.specs.Reader.{read_plain, read_strict};
 ghost use Rattle.moves.specs.Moves.{is_inverse, is_same_layer, is_available};
 ghost use Rattle.words.specs.Answers.{parsed_text, parsed_room, written_text, written_room};
 ghost use Rattle.words.specs.Text.{text_of};
-ghost use Rattle.texts.specs.Judge.{judge_word};
+ghost use Rattle.texts.specs.Judge.{judge_number, judge_room, judge_count};
 ghost use Rattle.texts.specs.Stickers.{read_call, picture_call};
 ghost use Rattle.texts.specs.Text.{parsed_number, parsed_count, written_number, written_count};
 ghost use Rattle.table_calls.specs.Calls.{table_number, table_left, block_number, block_left, PruneCall, PairsCall, PrunesCall, CheckCall};
@@ -138,13 +138,14 @@ pub extern "C" fn tsunghawi_scramble_to_str(list: &[u8], text: &mut [u8], count:
     texts::scramble_to_str(list, text, count)
 }
 
-// Whether moves solve a cube: the refusal's number in the low byte; where it is 0, solved in bits 8 to 15, the moves in bits 16 to 23, the
-// strokes from bit 32 on.
+// Whether moves solve a cube: what the program `judge` prints for `input`, in the first of 64 bytes, and how many they are.
 #[unsafe(no_mangle)]
-pub extern "C" fn tsunghawi_judge(input: &[u8]) -> u64
-    ensures { result ≡ judge_word input.now }
+pub extern "C" fn tsunghawi_judge(input: &[u8], out: &mut [u8], count: &mut usize) -> u8
+    ensures value { result ≡ judge_number out.old }
+    ensures out_after { out.new ≡ judge_room input.now out.old }
+    ensures count_after { count.new ≡ judge_count input.now out.old count.old }
 {
-    texts::judge(input)
+    texts::judge(input, out, count)
 }
 
 // The number of an arrangement, `kind` being 0 co, 1 eo, 2 e_combo, 3 cp, 4 ud_ep, 5 e_ep, 6 ep: 8 places for co and cp, else 12.

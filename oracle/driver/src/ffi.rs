@@ -1,5 +1,5 @@
 //! The product's C interface and safe calls of it. Every function gives the paper's refusal number, 0 for none.
-use crate::lent::{lend, lend_bytes, lend_list, lend_moves, lend_number, lend_rooms, lend_table, Outcome, Rooms};
+use crate::lent::{lend, lend_bytes, lend_list, lend_moves, lend_number, lend_rooms, lend_table, lend_text, Outcome, Rooms};
 use wire::Cube;
 
 extern "C" {
@@ -25,7 +25,7 @@ extern "C" {
     fn tsunghawi_picture(cube: *const u8, cube_len: usize, out: *mut u8, out_len: usize) -> u8;
     fn tsunghawi_scramble_from_str(t: *const u8, t_len: usize, out: *mut u8, room: usize, count: *mut usize) -> u8;
     fn tsunghawi_scramble_to_str(list: *const u8, list_len: usize, out: *mut u8, room: usize, count: *mut usize) -> u8;
-    fn tsunghawi_judge(input: *const u8, input_len: usize) -> u64;
+    fn tsunghawi_judge(input: *const u8, input_len: usize, out: *mut u8, out_len: usize, count: *mut usize) -> u8;
     fn tsunghawi_arrangement_to_index(kind: u8, places: *const u8, places_len: usize, index: *mut u32) -> u8;
     fn tsunghawi_index_to_arrangement(kind: u8, index: u32, places: *mut u8, places_len: usize) -> u8;
     fn tsunghawi_get_move_tables(moves: *mut u16, moves_len: usize) -> u8;
@@ -132,9 +132,9 @@ pub fn scramble_to_str(moves: &[u8], room: usize) -> Outcome<Vec<u8>> {
     lend_list(room, |out, n, count| unsafe { tsunghawi_scramble_to_str(moves.as_ptr(), moves.len(), out, n, count) })
 }
 
-/// The judge's word.
-pub fn judge(input: &[u8]) -> u64 {
-    unsafe { tsunghawi_judge(input.as_ptr(), input.len()) }
+/// What the program prints, a refusal too.
+pub fn judge(input: &[u8]) -> Outcome<Vec<u8>> {
+    lend_text(64, |out, n, count| unsafe { tsunghawi_judge(input.as_ptr(), input.len(), out, n, count) })
 }
 
 /// The number of a coordinate's array.

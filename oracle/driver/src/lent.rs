@@ -81,13 +81,22 @@ pub fn lend_number(call: impl FnOnce(*mut u32) -> u8) -> Outcome<u32> {
 
 /// Lends n bytes and a count, which says how many of them are the answer; those after must be as they were.
 pub fn lend_list(n: usize, call: impl FnOnce(*mut u8, usize, *mut usize) -> u8) -> Outcome<Vec<u8>> {
+    lend_part(n, UNTOUCHED, call)
+}
+
+/// The same for a text in a room of fixed size; those after must be 0.
+pub fn lend_text(n: usize, call: impl FnOnce(*mut u8, usize, *mut usize) -> u8) -> Outcome<Vec<u8>> {
+    lend_part(n, 0, call)
+}
+
+fn lend_part(n: usize, rest: u8, call: impl FnOnce(*mut u8, usize, *mut usize) -> u8) -> Outcome<Vec<u8>> {
     let mut counts = [UNCOUNTED; 3];
     let count = counts.as_mut_ptr().wrapping_add(1);
     let outcome = lend_bytes(n, |out, n| call(out, n, count));
     let [before, count, after] = counts;
     match outcome {
         _ if before != UNCOUNTED || after != UNCOUNTED => Outcome::Changed,
-        Outcome::Done(lent) if count > n || lent[count..].iter().any(|&b| b != UNTOUCHED) => Outcome::Changed,
+        Outcome::Done(lent) if count > n || lent[count..].iter().any(|&b| b != rest) => Outcome::Changed,
         Outcome::Done(lent) => Outcome::Done(lent[..count].to_vec()),
         Outcome::Refused(_) if count != UNCOUNTED => Outcome::Changed,
         other => other,

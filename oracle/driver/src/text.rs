@@ -1,7 +1,7 @@
 //! Step "text": move text and the program.
 use crate::ffi;
 use crate::lines::line;
-use wire::{answer, bytes_text, join, Args};
+use wire::{bytes_text, join, Args};
 
 pub fn parse(args: &Args) -> Option<String> {
     let (room, text) = args.number_and_bytes()?;
@@ -15,17 +15,13 @@ pub fn text(args: &Args) -> Option<String> {
     line(ffi::scramble_to_str(&list, room), |text| bytes_text(&text))
 }
 
-/// What the judge's word says, as the lines that the program prints, joined by `|`.
+/// The lines printed, joined by `|`; a last one without LF is shown so that it agrees with nothing.
 pub fn program(args: &Args) -> Option<String> {
-    let word = ffi::judge(&args.bytes()?);
-    let [number, solved, moves, ..] = word.to_le_bytes();
-    let strokes = word >> 32;
-    let said = match (number, solved) {
-        (0, 0) => format!("moves {moves}|strokes {strokes}|solved no"),
-        (0, 1) => format!("moves {moves}|strokes {strokes}|solved yes"),
-        (0, other) => format!("solved is {other}"),
-        (refused, _) if word == u64::from(refused) => format!("refused {refused}"),
-        _ => format!("refused with more beside it: {word}"),
-    };
-    Some(answer(Ok(said)))
+    line(ffi::judge(&args.bytes()?), |printed| {
+        let text = String::from_utf8_lossy(&printed).replace('\n', "|");
+        match text.strip_suffix('|') {
+            Some(lines) => lines.to_string(),
+            None => text + " (no LF)",
+        }
+    })
 }

@@ -23,7 +23,7 @@ put_counts-len-requires c =
     let one = a.one.now in
     let two = a.two.now in
     let size = solved-le one two a.count c.requires.2 c.requires.3 c.ranges.count.fits in
-    (c.requires.2, c.requires.3, omega (arith, size, c.put_turns-at.ensures.value, c.put_turns-at.auto.out), c.requires.0, c.requires.1)
+    (c.requires.2, c.requires.3, omega (arith, size, c.put_turns-at.ensures.value, c.put_turns-at.auto.out))
 
 pub returns : goal.returns
 returns c =

@@ -1,41 +1,37 @@
 -- `texts::judge` meets its contract. Assumes nothing.
-use mathlib.Core.Path.{ap, ◌∙◌}
+use mathlib.Core.Path.{◌≡◌, sym, ap, ◌∙◌}
 use native.Mathlib.Omega.{arith}
-use Rattle.judgement.specs.declared.Score.{Score}
-use Rattle.judgement.proofs.Refusals.{few-moves}
-use Rattle.texts.specs.Judge.{score_word}
-use Rattle.texts.proofs.Judged.{word-refused, word-yes, word-no}
+use lib.ListN.{length}
+use borrow.Author.Tests.{eq-eqb, ne_eqb}
+use Rattle.base.proofs.Steps.{paste-whole}
+use Rattle.judgement.specs.declared.Printed.{Printed}
+use Rattle.judgement.proofs.Written.{printed-sizes}
+use Rattle.texts.specs.Judge.{judge_number, judge_room, judge_count}
 use Rattle.texts.proofs.judge.Goals as goal
 
-pub returns-then-score-ne0 : goal.returns-then-score-ne0
-returns-then-score-ne0 c = word-refused c.score-score.result c.if-score-ne0.true ∙ ap score_word c.score-score.ensures
+pub returns-then-out-ne64 : goal.returns-then-out-ne64
+unfolding judge_number judge_room judge_count
+returns-then-out-ne64 c =
+    let e = ne_eqb (length c.args.out.now) 64 c.if-out-ne64.true in
+    record { value = rw e; out_after = rw e; count_after = rw e }
 
-pub overflow_mul-word : goal.overflow_mul-word
-overflow_mul-word c =
-    let few = few-moves c.args.input.now in
-    let e = c.score-score.ensures in
-    omega (arith, ap (λ (k : Score). k.moves) e, few.0)
-
-pub overflow_mul-word-2 : goal.overflow_mul-word-2
-overflow_mul-word-2 c =
-    let few = few-moves c.args.input.now in
-    let e = c.score-score.ensures in
-    omega (arith, ap (λ (k : Score). k.strokes) e, few.1)
-
-pub overflow_add-word : goal.overflow_add-word
-overflow_add-word c =
-    let few = few-moves c.args.input.now in
-    let e = c.score-score.ensures in
-    omega (arith, ap (λ (k : Score). k.moves) e, ap (λ (k : Score). k.strokes) e, few.0, few.1)
-
-pub overflow_add-result : goal.overflow_add-result
-overflow_add-result c =
-    let few = few-moves c.args.input.now in
-    let e = c.score-score.ensures in
-    omega (arith, ap (λ (k : Score). k.moves) e, ap (λ (k : Score). k.strokes) e, few.0, few.1)
-
-pub returns-then-score : goal.returns-then-score
-returns-then-score c = word-yes c.score-score.result c.if-score-ne0.false c.if-score.true ∙ ap score_word c.score-score.ensures
+pub copy_in-requires : goal.copy_in-requires
+copy_in-requires c =
+    let is = c.judge-said.ensures in
+    let sizes = printed-sizes c.args.input.now in
+    let size : length c.judge-said.result.text ≡ 64 = ap (λ (p : Printed). length p.text) is ∙ sizes.0 in
+    omega (arith, size, c.if-out-ne64.false)
 
 pub returns : goal.returns
-returns c = word-no c.score-score.result c.if-score-ne0.false c.if-score.false ∙ ap score_word c.score-score.ensures
+unfolding judge_number judge_room judge_count
+returns c =
+    let is = c.judge-said.ensures in
+    let sizes = printed-sizes c.args.input.now in
+    let size : length c.judge-said.result.text ≡ 64 = ap (λ (p : Printed). length p.text) is ∙ sizes.0 in
+    let e = eq-eqb (length c.args.out.now) 64 c.if-out-ne64.false in
+    let whole = paste-whole c.args.out.now c.judge-said.result.text (size ∙ sym c.if-out-ne64.false) in
+    record {
+      value = rw e;
+      out_after = rw e (c.copy_in.ensures ∙ whole ∙ ap (λ (p : Printed). p.text) is);
+      count_after = rw e (ap (λ (p : Printed). p.len) is);
+    }

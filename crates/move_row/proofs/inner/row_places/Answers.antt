@@ -1,11 +1,6 @@
 -- `move_row::inner::row_places` meets its contract. Assumes nothing.
-use mathlib.Core.Path.{◌≡◌, sym, subst, ◌∙◌}
-use mathlib.Core.List.{append-nil}
-use Prim.Native.Nat.{ℕ}
-use Rattle.move_row.specs.Tables.{table_at, row_places}
+use Rattle.move_row.proofs.Rows.{row-front}
 use Rattle.move_row.proofs.inner.row_places.Goals as goal
 
-pub returns-in-2 : goal.returns-in-2
-returns-in-2 c =
-    let e = c.in-2.is in
-    subst (λ (t : ℕ). c.index_to_e_combo.result ≡ row_places (table_at t).kind c.args.i) (sym e) (c.index_to_e_combo.ensures ∙ sym (append-nil _))
+pub returns-clause-arrangement : goal.returns-clause-arrangement
+returns-clause-arrangement c = row-front c.args.t c.args.i c.requires.0 c.requires.1 c.padded_row.result c.padded_row.ensures

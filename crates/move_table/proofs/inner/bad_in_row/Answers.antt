@@ -7,14 +7,15 @@ use lib.ListN.{length, take}
 use Rattle.move_row.specs.Tables.{table_at, columns, true_row, Domain}
 use Rattle.move_table.proofs.Offs.{off-step, off-stop, off-end}
 use Rattle.move_table.proofs.Rows.{row-length, entry-is}
-use Rattle.move_table.proofs.Bounds.{column-moves, row-domain, row-front}
+use Rattle.move_row.proofs.Rows.{row-domain}
+use Rattle.move_table.proofs.Bounds.{column-moves}
 use Rattle.move_table.proofs.inner.bad_in_row.Goals as goal
 
 pub entry_after-requires : goal.entry_after-requires
 entry_after-requires c =
     let a = c.args in
     let p = c.requires in
-    let e = ap (λ (k : ℕ). take k c.row_places-a.result) c.places_of-n.ensures ∙ row-front a.t a.i p.0 p.1 _ c.row_places-a.ensures in
+    let e = ap (λ (k : ℕ). take k c.row_places-a.result) c.places_of-n.ensures ∙ c.row_places-a.ensures.arrangement in
     let j : c.loop-j.j < columns (table_at a.t) = omega (arith, p.3) in
     (p.0, subst (λ (l : List ℕ). Domain (table_at a.t).kind l) (sym e) (row-domain a.t a.i p.0 p.1), p.2, omega (arith, column-moves a.t c.loop-j.j p.0 j, c.column_move.ensures))
 
@@ -23,7 +24,7 @@ returns-then-row-j c =
     let a = c.args in
     let p = c.requires in
     let l = c.loop-j in
-    let e = ap (λ (k : ℕ). take k c.row_places-a.result) c.places_of-n.ensures ∙ row-front a.t a.i p.0 p.1 _ c.row_places-a.ensures in
+    let e = ap (λ (k : ℕ). take k c.row_places-a.result) c.places_of-n.ensures ∙ c.row_places-a.ensures.arrangement in
     let h : l.j < columns (table_at a.t) = omega (arith, p.3) in
     let k : l.j < length a.row.now = omega arith in
     let v = entry-is (table_at a.t) a.i l.j _ _ _ h e c.column_move.ensures c.entry_after.ensures in
@@ -34,7 +35,7 @@ loop-j-preserved c =
     let a = c.args in
     let p = c.requires in
     let l = c.loop-j in
-    let e = ap (λ (k : ℕ). take k c.row_places-a.result) c.places_of-n.ensures ∙ row-front a.t a.i p.0 p.1 _ c.row_places-a.ensures in
+    let e = ap (λ (k : ℕ). take k c.row_places-a.result) c.places_of-n.ensures ∙ c.row_places-a.ensures.arrangement in
     let h : l.j < columns (table_at a.t) = omega (arith, p.3) in
     let k : l.j < length a.row.now = omega arith in
     let v = entry-is (table_at a.t) a.i l.j _ _ _ h e c.column_move.ensures c.entry_after.ensures in (

@@ -1,6 +1,5 @@
 -- `numbering::inner::calculate_combo` meets its contract. The loop's invariant: the result is n over i. Assumes nothing.
 use mathlib.Core.Path.{sym}
-use Prim.Native.Nat.{◌-◌}
 use native.Mathlib.Omega.{arith}
 use Rattle.base.proofs.Combo.{choose-above}
 use Rattle.numbering.proofs.Combination.{choose-start, choose-fits, choose-turn}

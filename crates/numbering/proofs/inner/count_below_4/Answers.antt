@@ -1,5 +1,4 @@
 -- `numbering::inner::count_below_4` meets its contract. The loop's invariant: what is counted and what is left make the whole. Assumes nothing.
-use Prim.Native.Nat.{◌-◌}
 use native.Mathlib.Omega.{arith}
 use Rattle.base.proofs.Perm.{below-le}
 use Rattle.base.proofs.Steps.{below-yes, below-no}

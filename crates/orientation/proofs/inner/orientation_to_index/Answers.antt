@@ -1,6 +1,5 @@
 -- `orientation::inner::orientation_to_index` meets its contract. The loop's invariant: the places passed, in the base, and the number of what is
 -- left make the number of the whole. Assumes nothing.
-use Prim.Native.Nat.{◌-◌}
 use native.Mathlib.Omega.{arith}
 use Rattle.numbering.proofs.Orientation.{digits_step, digits-fit}
 use Rattle.orientation.proofs.inner.orientation_to_index.Goals as goal

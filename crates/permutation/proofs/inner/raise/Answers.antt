@@ -1,5 +1,4 @@
 -- `permutation::inner::raise` meets its contract. The loop's invariant: the places passed are raised, the others are as they came. Assumes nothing.
-use Prim.Native.Nat.{◌-◌}
 use Rattle.numbering.proofs.Fill.{raise-yes, raise-no}
 use Rattle.permutation.proofs.inner.raise.Goals.{else-d-s, then-d-s}
 use Rattle.permutation.proofs.inner.raise.Goals as goal

@@ -1,7 +1,6 @@
 -- `reading::inner::read_edges` meets its contract. Outer loop: what is written is the front of what is read. Inner loop: the ways that are left give the first that fits. Assumes nothing.
 use mathlib.Core.Path.{◌≡◌, sym, ◌∙◌}
 use mathlib.Core.List.{map}
-use Prim.Native.Nat.{◌-◌}
 use native.Mathlib.Omega.{arith}
 use lib.ListN.{length-set}
 use Rattle.base.specs.Lists.{range}

@@ -1,9 +1,9 @@
--- `turning::inner::sort` meets its contract. The loop's invariant: the swaps made and those that are left make the swaps of the whole. Assumes nothing.
+-- `turning::inner::count_swaps` meets its contract. The loop's invariant: the swaps made and those that are left make the swaps of the whole. Assumes nothing.
 use mathlib.Core.Path.{◌∙◌}
 use native.Mathlib.Omega.{arith}
 use lib.ListN.{length, drop}
 use Rattle.base.proofs.Selection.{swaps-step, swaps-end, settled-le}
-use Rattle.turning.proofs.inner.sort.Goals as goal
+use Rattle.turning.proofs.inner.count_swaps.Goals as goal
 
 pub loop-i-preserved : goal.loop-i-preserved
 loop-i-preserved c =
