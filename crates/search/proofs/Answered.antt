@@ -2,7 +2,7 @@
 use Prim.Native.Nat.{ℕ, zero, ◌+◌, ◌<◌, ◌≤◌}
 use mathlib.Core.Path.{◌≡◌, refl, sym, ap, ◌∙◌}
 use mathlib.Core.Bool.{Bool, true, false, ◌&&◌, false≢true}
-use mathlib.Core.List.{List, [], ◌∷◌, ◌++◌}
+use mathlib.Core.List.{List, [], ◌++◌}
 use lib.Dec.{leb, eqb}
 use lib.ListN.{length}
 use native.Mathlib.Nat.{sub-zero}
@@ -20,9 +20,6 @@ use Rattle.search.specs.Solve.{no_lists, first_list, second_list, solves, checke
 use Rattle.search.specs.declared.Found.{Found}
 use Rattle.search.specs.declared.Found.TheVariants as found
 use Rattle.search.specs.declared.Solution.{Solution}
-use Rattle.search.specs.contracts.Found.{the_type}
-use denote.Enum.Declared.{tag_of}
-use types.Run.{OneOf, miss}
 
 -- ---- the loop over the lengths
 
@@ -92,12 +89,12 @@ module _ (cube : CubieCube) (s : Solution) where
   unfolding checked
   check-solved e f = ap (checked_by cube s) e ∙ ap (λ (b : Bool). pick b s (no_lists (found.Refused 12) s.count)) f
 
-  pub check-kept : OneOf (1 ∷ 2 ∷ 3 ∷ []) (tag_of the_type s.found) → checked cube s ≡ s
+  pub check-kept : (s.found ≡ found.Solved → ⊥) → checked cube s ≡ s
   unfolding checked
   check-kept h = go s.found h
     where
-      go : (f : Found) → OneOf (1 ∷ 2 ∷ 3 ∷ []) (tag_of the_type f) → checked_by cube s f ≡ s
-      go found.Solved h = absurd (miss (1 ∷ 2 ∷ 3 ∷ []) 0 tt h)
+      go : (f : Found) → (f ≡ found.Solved → ⊥) → checked_by cube s f ≡ s
+      go found.Solved h = absurd (h refl)
       go found.Nothing h = refl
       go found.Spent h = refl
       go (found.Refused n) h = refl

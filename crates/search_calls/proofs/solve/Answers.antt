@@ -2,7 +2,12 @@
 use Rattle.search_calls.proofs.Left.{late}
 use Rattle.search_calls.proofs.solve.Goals as goal
 
-pub returns-then-limit-gt31 : goal.returns-then-limit-gt31
-returns-then-limit-gt31 c =
+pub returns-then-limit-gt31-clause-one_after : goal.returns-then-limit-gt31-clause-one_after
+returns-then-limit-gt31-clause-one_after c =
     let a = c.args in
-    late a.cube.now a.limit a.budget a.moves.now a.prunes.now a.one.now a.two.now c.if-limit-gt31.true
+    (late a.cube.now a.limit a.budget a.moves.now a.prunes.now a.one.now a.two.now c.if-limit-gt31.true).1.0
+
+pub returns-then-limit-gt31-clause-two_after : goal.returns-then-limit-gt31-clause-two_after
+returns-then-limit-gt31-clause-two_after c =
+    let a = c.args in
+    (late a.cube.now a.limit a.budget a.moves.now a.prunes.now a.one.now a.two.now c.if-limit-gt31.true).1.1

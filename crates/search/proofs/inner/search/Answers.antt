@@ -1,6 +1,6 @@
 -- `search::inner::search` meets its contract: at the head of the loop, what is left of the lengths answers as all of them did, and both paths are empty. The
 -- measure is the lengths left. Assumes nothing.
-use Prim.Native.Nat.{ℕ, ◌-◌, ◌<◌, ◌≤◌}
+use Prim.Native.Nat.{ℕ, ◌<◌, ◌≤◌}
 use mathlib.Core.Path.{◌≡◌, refl, sym, ap, subst, ◌∙◌}
 use mathlib.Core.List.{List}
 use native.Mathlib.Nat.{le_trans, lt_of_le_of_lt, zero-add}
