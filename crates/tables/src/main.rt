@@ -130,11 +130,14 @@ fn write_moves(file: &mut impl Write, moves: &[u16]) -> io::Result<bool> {
     Ok(true)
 }
 
-// Writes both blocks to a file that it makes, or empties first.
-fn write_blocks(files: &impl Files, path: &str, moves: &[u16], prunes: &[u8]) -> io::Result<()> {
+// Writes both blocks to a file that it makes, or empties first; whether all entries were taken.
+fn write_blocks(files: &impl Files, path: &str, moves: &[u16], prunes: &[u8]) -> io::Result<bool> {
     let mut file = fs::create(files, path)?;
-    write_moves(&mut file, moves)?;
-    file.write_all(prunes)
+    if !write_moves(&mut file, moves)? {
+        return Ok(false);
+    }
+    file.write_all(prunes)?;
+    Ok(true)
 }
 
 // Writes both blocks and says how many bytes they are, or says that the file can't be written.
@@ -148,7 +151,8 @@ fn write_file<R: Files + Print + Eprint>(
         return Ok(());
     };
     match write_blocks(rt, path, moves, prunes) {
-        Ok(()) => print_written(rt, moves.len() as u64, prunes.len() as u64),
+        Ok(true) => print_written(rt, moves.len() as u64, prunes.len() as u64),
+        Ok(false) => fail(rt, path, "A part has too many entries"),
         Err(e) => fail(rt, path, e),
     }
 }
