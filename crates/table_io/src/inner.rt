@@ -1,14 +1,14 @@
 // What is read from a file, and what is said of it on standard output. What a file holds is known to no contract: lengths stay, and the
 // check that follows decides.
-ghost use Rattle.std.specs.Prelude.{◌≡◌, ◌≤◌, ◌<◌, eqb, length, IfOk};
+ghost use Rattle.std.specs.Prelude.{◌≡◌, ◌≤◌, ◌<◌, eqb, length, IfOk, IfSome};
 ghost use Rattle.table_io.specs.Both.{GoodCall};
 
 use std::env::FillError;
 use std::fmt::Display;
+use std::io::Read;
 use std::rt::{Env, Files};
 use std::str::from_utf8;
 use std::{fs, io};
-use std::io::Read;
 
 // ---- what is said
 
@@ -49,7 +49,11 @@ pub fn good(rt: &impl Print, moves: &[u16], prunes: &[u8]) -> io::Result<bool>
 }
 
 // Says on standard error why something can't be used.
-pub fn fail(rt: &impl Eprint, what: impl Display + Drop, reason: impl Display + Drop) -> io::Result<()> {
+pub fn fail(
+    rt: &impl Eprint,
+    what: impl Display + Drop,
+    reason: impl Display + Drop,
+) -> io::Result<()> {
     eprintln!(rt; "{what}: {reason}")
 }
 

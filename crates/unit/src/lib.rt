@@ -165,12 +165,7 @@ pub fn tsunghawi_get_move_tables(moves: &mut [u16]) -> u8
 }
 
 // Pruning table t, 6 to 9, by its two move tables. After 14 the lent table is changed: pairs out of reach hold 255.
-pub fn tsunghawi_get_prune_table(
-    t: u8,
-    first: &[u16],
-    second: &[u16],
-    table: &mut [u8],
-) -> u8
+pub fn tsunghawi_get_prune_table(t: u8, first: &[u16], second: &[u16], table: &mut [u8]) -> u8
     ensures { PruneCall t first.now second.now table.old table.new result }
 {
     prune_calls::get_prune_table(t, first, second, table)
