@@ -265,6 +265,7 @@ fn tell_agree(rt: &impl Print, count: u64) -> io::Result<()> {
 }
 
 // Stops at the first case that differs, and names it by its number and its line.
+#[tactic(auto, using(crate::proofs::Found::index_le))]
 fn replay_all(rt: &impl Print, text: &[u8], moves: &[u16], prunes: &[u8]) -> io::Result<()> {
     let mut agreed: u64 = 0;
     let mut at = 0;
