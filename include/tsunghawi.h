@@ -1,6 +1,6 @@
 /*
  * Tsunghawi from C: cubes, stickers, move text, coordinates, the ten tables and the search.
- * Link target/staticlib/libunit.a, which `rt staticlib unit` writes.
+ * Link target/staticlib/libunit.a, which `tools/staticlib` writes.
  *
  * Every function returns a refusal's number, 0 for none (TSUNGHAWI_REFUSED_..); tsunghawi_check_tables and tsunghawi_solve return it in the
  * low byte of a word. A function that refuses writes nothing, but for 14, which leaves the table that it could not finish.

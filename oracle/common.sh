@@ -28,8 +28,8 @@ build_oracle() {
 # build_library: proves the product's library, or takes the one in UNIT_LIB.
 build_library() {
     if [ -z "${UNIT_LIB:-}" ]; then
-        need rt "the product's library is made by 'rt staticlib unit'"
-        (cd "$ROOT" && rt staticlib unit) >&2 || die "rt staticlib unit failed"
+        need rt "the product's library is made by tools/staticlib, with rt"
+        "$ROOT/tools/staticlib" >&2 || die "tools/staticlib failed"
         UNIT_LIB=$ROOT/target/staticlib/libunit.a
     fi
     [ -f "$UNIT_LIB" ] || die "no library $UNIT_LIB"

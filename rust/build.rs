@@ -8,7 +8,7 @@ fn main() {
         None => Path::new(env!("CARGO_MANIFEST_DIR")).join("../target/staticlib/libunit.a"),
     };
     let library =
-        library.canonicalize().unwrap_or_else(|e| panic!("{}: {e}; `rt staticlib unit` writes it", library.display()));
+        library.canonicalize().unwrap_or_else(|e| panic!("{}: {e}; `tools/staticlib` writes it", library.display()));
     let folder = library.parent().expect("a file stands in a folder");
     let name = library.file_stem().and_then(|stem| stem.to_str()?.strip_prefix("lib")).expect("the file is libNAME.a");
     println!("cargo::rerun-if-changed={}", library.display());

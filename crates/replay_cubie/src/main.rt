@@ -2,9 +2,11 @@
 // input holds a case a line (oracle/README.md).
 #![tactic(auto)]
 
-ghost use Rattle.std.specs.Prelude.{◌≤◌};
+ghost use Rattle.std.specs.Prelude.{◌≡◌, ◌≤◌, IfOk, vec_len};
 
 use replay::{part_at, unhex};
+use std::alloc::{AllocError, Global};
+use std::io;
 
 // Runs a case of a kind on what it was given; 255 is no kind.
 fn call(kind: u8, a: &[u8], b: &[u8], out: &mut [u8]) -> u8 {
@@ -252,42 +254,36 @@ fn verdict(text: &[u8], moves: &[u16], prunes: &[u8]) -> u8
     }
 }
 
-fn tell_differs(number: u64, text: &[u8]) {
-    io::write_all(1, b"differs: case ");
-    io::print_decimal(1, number);
-    io::write_all(1, b": ");
-    io::write_all(1, text);
-    io::write_all(1, b"\n");
+fn tell_differs(rt: &impl Print, number: u64, text: &[u8]) -> io::Result<()> {
+    print!(rt; "differs: case {number}: ")?;
+    rt.write_all(text)?;
+    print!(rt; "\n")
 }
 
-fn tell_agree(count: u64) {
-    io::write_all(1, b"cases that agree: ");
-    io::print_decimal(1, count);
-    io::write_all(1, b"\n");
+fn tell_agree(rt: &impl Print, count: u64) -> io::Result<()> {
+    println!(rt; "cases that agree: {count}")
 }
 
 // Stops at the first case that differs, and names it by its number and its line.
-fn replay_all(text: &[u8], moves: &[u16], prunes: &[u8]) {
+#[tactic(auto, using(crate::proofs::Found::index_le))]
+fn replay_all(rt: &impl Print, text: &[u8], moves: &[u16], prunes: &[u8]) -> io::Result<()> {
     let mut agreed: u64 = 0;
     let mut at = 0;
     while at < text.len() {
         let end = at + lines::inner::find(&text[at..], b'\n');
         let found = verdict(&text[at..end], moves, prunes);
         if found == 2 {
-            tell_differs(agreed + 1, &text[at..end]);
-            return;
+            return tell_differs(rt, agreed + 1, &text[at..end]);
         }
         agreed += found as u64;
         at = end + 1;
     }
-    tell_agree(agreed);
+    tell_agree(rt, agreed)
 }
 
-// Says with which of the paper's numbers the tables were refused.
-fn tell_refused(number: u64) {
-    io::write_all(1, b"tables refused: ");
-    io::print_decimal(1, number);
-    io::write_all(1, b"\n");
+// Says with which refusal's number the tables were refused.
+fn tell_refused(rt: &impl Print, number: u8) -> io::Result<()> {
+    println!(rt; "tables refused: {number}")
 }
 
 // Builds both blocks of tables, for the search; the paper's number, 0 for none.
@@ -300,12 +296,16 @@ fn build(moves: &mut [u16], prunes: &mut [u8]) -> u8 {
 }
 
 // Room for the block of move tables, and for that of pruning tables.
-fn moves_room() -> [u16; 891780] {
-    [0; 891780]
+fn moves_room(alloc: Global) -> Result<Vec<u16>, AllocError>
+    ensures { IfOk result (λ v. vec_len v ≡ 891780) }
+{
+    vec![in alloc; 0; 891780]
 }
 
-fn prunes_room() -> [u8; 4031685] {
-    [0; 4031685]
+fn prunes_room(alloc: Global) -> Result<Vec<u8>, AllocError>
+    ensures { IfOk result (λ v. vec_len v ≡ 4031685) }
+{
+    vec![in alloc; 0; 4031685]
 }
 
 // Room for the recorded text.
@@ -314,19 +314,18 @@ fn room() -> [u8; 480000] {
 }
 
 // Reads the recorded text and replays it.
-fn replay_input(moves: &[u16], prunes: &[u8]) {
+fn replay_input<R: Input + Print>(rt: &R, moves: &[u16], prunes: &[u8]) -> io::Result<()> {
     let mut text = room();
-    let n = io::read_full(0, &mut text);
-    replay_all(&text[..n], moves, prunes);
+    let n = stream::read_full(&mut rt.reader(), &mut text)?;
+    replay_all(rt, &text[..n], moves, prunes)
 }
 
-fn main() {
-    let mut moves = moves_room();
-    let mut prunes = prunes_room();
-    let refused = build(&mut moves, &mut prunes);
+fn main(rt: HostRuntime) -> io::Result<()> {
+    let mut moves = moves_room(rt.alloc())?;
+    let mut prunes = prunes_room(rt.alloc())?;
+    let refused = build(moves.as_mut_slice(), prunes.as_mut_slice());
     if refused != 0 {
-        tell_refused(refused as u64);
-        return;
+        return tell_refused(&rt, refused);
     }
-    replay_input(&moves, &prunes);
+    replay_input(&rt, moves.as_slice(), prunes.as_slice())
 }

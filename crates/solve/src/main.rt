@@ -3,17 +3,25 @@
 // input too, and needs no tables. What is printed is that of `solution::solution` and `solution::net`.
 #![tactic(auto)]
 
-use libc::{STDIN_FILENO, STDOUT_FILENO};
+ghost use Rattle.std.specs.Prelude.{◌≡◌, IfOk, vec_len};
+
 use solution::Printed;
-use table_io::inner::{good, none_refused, read_file};
+use std::alloc::{AllocError, Global};
+use std::io;
+use std::rt::{Env, Files};
+use table_io::inner::{arg_count, good, none_refused, path_arg, path_room, read_file};
 
 // Room for the block of move tables, and for that of pruning tables.
-fn moves_room() -> [u16; 891780] {
-    [0; 891780]
+fn moves_room(alloc: Global) -> Result<Vec<u16>, AllocError>
+    ensures { IfOk result (λ v. vec_len v ≡ 891780) }
+{
+    vec![in alloc; 0; 891780]
 }
 
-fn prunes_room() -> [u8; 4031685] {
-    [0; 4031685]
+fn prunes_room(alloc: Global) -> Result<Vec<u8>, AllocError>
+    ensures { IfOk result (λ v. vec_len v ≡ 4031685) }
+{
+    vec![in alloc; 0; 4031685]
 }
 
 // One byte more than is taken, so that a longer input shows.
@@ -22,38 +30,36 @@ fn input_room() -> [u8; 1025] {
 }
 
 // The text, which is never longer than its room.
-fn print(said: Printed) {
+fn print(rt: &impl Print, said: Printed) -> io::Result<()> {
     let text = said.text;
     let len = said.len;
     if len <= 256 {
-        io::write_all(STDOUT_FILENO, &text[..len]);
+        rt.write_all(&text[..len])?;
     }
+    Ok(())
 }
 
 // Checks the tables, reads a cube and solves it.
-fn solve_with(moves: &[u16], prunes: &[u8]) {
-    if !good(moves, prunes) {
-        return;
+fn solve_with<R: Input + Print>(rt: &R, moves: &[u16], prunes: &[u8]) -> io::Result<()> {
+    if !good(rt, moves, prunes)? {
+        return Ok(());
     }
     let mut input = input_room();
-    let n = io::read_full(STDIN_FILENO, &mut input);
-    print(solution::solution(&input[..n], moves, prunes));
+    let n = stream::read_full(&mut rt.reader(), &mut input)?;
+    print(rt, solution::solution(&input[..n], moves, prunes))
 }
 
 // `solve net`.
-fn run_net() {
+fn run_net<R: Input + Print>(rt: &R) -> io::Result<()> {
     let mut input = input_room();
-    let n = io::read_full(STDIN_FILENO, &mut input);
-    print(solution::net(&input[..n]));
+    let n = stream::read_full(&mut rt.reader(), &mut input)?;
+    print(rt, solution::net(&input[..n]))
 }
 
 // ---- the arguments
 
-fn print_usage() {
-    io::write_all(
-        libc::STDERR_FILENO,
-        b"usage: solve | solve FILE | solve net\n",
-    );
+fn print_usage(rt: &impl Eprint) -> io::Result<()> {
+    eprintln!(rt; "usage: solve | solve FILE | solve net")
 }
 
 // Whether a word is `net`.
@@ -65,42 +71,49 @@ fn is_net(word: &[u8]) -> bool {
 }
 
 // `solve`.
-fn run_built(moves: &mut [u16], prunes: &mut [u8]) {
-    if none_refused(table_io::build(moves, prunes) as u64) {
-        solve_with(moves, prunes);
+fn run_built<R: Input + Print>(rt: &R, moves: &mut [u16], prunes: &mut [u8]) -> io::Result<()> {
+    if none_refused(rt, table_io::build(moves, prunes) as u64)? {
+        solve_with(rt, moves, prunes)?;
     }
+    Ok(())
 }
 
 // `solve FILE`, or `solve net`.
-fn run_word(moves: &mut [u16], prunes: &mut [u8]) {
-    let mut word = io::buffer();
-    let n = os::arg(1, &mut word);
-    if os::errno() != 0 {
-        os::fail(b"FILE");
-        return;
-    }
+fn run_word<R: Env + Files + Input + Print + Eprint>(
+    rt: &R,
+    moves: &mut [u16],
+    prunes: &mut [u8],
+) -> io::Result<()> {
+    let mut word = path_room();
+    let Some(n) = path_arg(rt, 1, &mut word)? else {
+        return Ok(());
+    };
     if is_net(&word[..n]) {
-        run_net();
-        return;
+        return run_net(rt);
     }
-    if read_file(&word[..n], moves, prunes) {
-        solve_with(moves, prunes);
+    if read_file(rt, &word[..n], moves, prunes)? {
+        solve_with(rt, moves, prunes)?;
     }
+    Ok(())
 }
 
-fn run(moves: &mut [u16], prunes: &mut [u8]) {
-    let count = os::arg_count();
+fn run<R: Env + Files + Input + Print + Eprint>(
+    rt: &R,
+    moves: &mut [u16],
+    prunes: &mut [u8],
+) -> io::Result<()> {
+    let count = arg_count(rt);
     if count < 2 {
-        run_built(moves, prunes);
+        run_built(rt, moves, prunes)
     } else if count == 2 {
-        run_word(moves, prunes);
+        run_word(rt, moves, prunes)
     } else {
-        print_usage();
+        print_usage(rt)
     }
 }
 
-fn main() {
-    let mut moves = moves_room();
-    let mut prunes = prunes_room();
-    run(&mut moves, &mut prunes);
+fn main(rt: HostRuntime) -> io::Result<()> {
+    let mut moves = moves_room(rt.alloc())?;
+    let mut prunes = prunes_room(rt.alloc())?;
+    run(&rt, moves.as_mut_slice(), prunes.as_mut_slice())
 }

@@ -1,43 +1,105 @@
 // What is read from a file, and what is said of it on standard output. What a file holds is known to no contract: lengths stay, and the
 // check that follows decides.
-ghost use Rattle.std.specs.Prelude.{◌≡◌, ◌≤◌, ◌<◌, eqb, length};
+ghost use Rattle.std.specs.Prelude.{◌≡◌, ◌≤◌, ◌<◌, eqb, length, IfOk, IfSome};
 ghost use Rattle.table_io.specs.Both.{GoodCall};
 
-use libc::STDOUT_FILENO;
+use std::env::FillError;
+use std::fmt::Display;
+use std::io::Read;
+use std::rt::{Env, Files};
+use std::str::from_utf8;
+use std::{fs, io};
 
 // ---- what is said
 
-// `refused` and the paper's number, in the low byte; after 13 the table and the entry, above it.
-fn print_refused(n: u64) {
-    io::write_all(STDOUT_FILENO, b"refused ");
-    io::print_decimal(STDOUT_FILENO, n % 256);
-    if n % 256 == 13 {
-        io::write_all(STDOUT_FILENO, b" table ");
-        io::print_decimal(STDOUT_FILENO, n / 256 % 256);
-        io::write_all(STDOUT_FILENO, b" entry ");
-        io::print_decimal(STDOUT_FILENO, n / 65536);
+// `refused` and the refusal's number, in the low byte; after 13 the table and the entry, above it.
+fn print_refused(rt: &impl Print, n: u64) -> io::Result<()> {
+    let number = n % 256;
+    print!(rt; "refused {number}")?;
+    if number == 13 {
+        let table = n / 256 % 256;
+        let entry = n / 65536;
+        print!(rt; " table {table} entry {entry}")?;
     }
-    io::write_all(STDOUT_FILENO, b"\n");
+    print!(rt; "\n")
 }
 
 // Says a refusal; whether there was none.
-pub fn none_refused(n: u64) -> bool
-    ensures { result ≡ eqb n 0 }
+pub fn none_refused(rt: &impl Print, n: u64) -> io::Result<bool>
+    ensures { IfOk result (λ none. none ≡ eqb n 0) }
 {
     if n != 0 {
-        print_refused(n);
+        print_refused(rt, n)?;
     }
+    Ok(is_none(n))
+}
+
+// Whether a number is that of no refusal.
+fn is_none(n: u64) -> bool
+    ensures { result ≡ eqb n 0 }
+{
     n == 0
 }
 
 // Checks both blocks and says a refusal; whether they are good.
-pub fn good(moves: &[u16], prunes: &[u8]) -> bool
-    ensures { GoodCall moves.now prunes.now result }
+pub fn good(rt: &impl Print, moves: &[u16], prunes: &[u8]) -> io::Result<bool>
+    ensures { IfOk result (λ good. GoodCall moves.now prunes.now good) }
 {
-    none_refused(table_calls::check_tables(moves, prunes))
+    none_refused(rt, table_calls::check_tables(moves, prunes))
+}
+
+// Says on standard error why something can't be used.
+pub fn fail(
+    rt: &impl Eprint,
+    what: impl Display + Drop,
+    reason: impl Display + Drop,
+) -> io::Result<()> {
+    eprintln!(rt; "{what}: {reason}")
+}
+
+// ---- the arguments
+
+// Room for a path.
+pub fn path_room() -> [u8; 4096] {
+    [0; 4096]
+}
+
+// How many arguments there are, the program's name among them; 4 stands for more than 3.
+pub fn arg_count(rt: &impl Env) -> usize {
+    for i in 0..4 {
+        let mut start = [0u8; 1];
+        if let Err(FillError::NotPresent) = rt.arg(i, &mut start) {
+            return i;
+        }
+    }
+    4
+}
+
+// An argument that names a file, at the start of `room`, and its length; none, said on standard error, where it is too long.
+pub fn path_arg<R: Env + Eprint>(rt: &R, i: usize, room: &mut [u8]) -> io::Result<Option<usize>>
+    ensures { IfOk result (λ n. IfSome n (λ k. k ≤ length room.new)) }
+{
+    match rt.arg(i, room) {
+        Ok(n) => Ok(Some(n)),
+        Err(_) => {
+            fail(rt, "FILE", "File name too long")?;
+            Ok(None)
+        }
+    }
 }
 
 // ---- the file
+
+// A path as text, as files are named by; none, said on standard error, where it is no text.
+pub fn path_text<'a>(rt: &impl Eprint, path: &'a [u8]) -> io::Result<Option<&'a str>> {
+    match from_utf8(path) {
+        Ok(text) => Ok(Some(text)),
+        Err(_) => {
+            fail(rt, path.escape_ascii(), "The path is not UTF-8")?;
+            Ok(None)
+        }
+    }
+}
 
 // How many entries the next part has: all that are left, or 32768.
 pub fn part_of(left: usize) -> usize
@@ -48,57 +110,73 @@ pub fn part_of(left: usize) -> usize
 }
 
 // Reads up to 32768 entries; false where the file ends before.
-fn read_part(fd: i32, part: &mut [u16]) -> bool {
+fn read_part(file: &mut impl Read, part: &mut [u16]) -> io::Result<bool> {
     if 32768 < part.len() {
-        return false;
+        return Ok(false);
     }
     let len = 2 * part.len();
-    let mut room = io::large_buffer();
-    if io::read_full(fd, &mut room[..len]) != len {
-        return false;
+    let mut room = [0u8; 65536];
+    if stream::read_full(file, &mut room[..len])? != len {
+        return Ok(false);
     }
-    table_file::from_bytes(&room[..len], part) == 0
+    Ok(table_file::from_bytes(&room[..len], part))
 }
 
 // Reads all entries, part by part.
-fn read_moves(fd: i32, moves: &mut [u16]) -> bool {
+fn read_moves(file: &mut impl Read, moves: &mut [u16]) -> io::Result<bool> {
     let mut at = 0;
     while at < moves.len() {
         let n = part_of(moves.len() - at);
-        if !read_part(fd, &mut moves[at..at + n]) {
-            return false;
+        if !read_part(file, &mut moves[at..at + n])? {
+            return Ok(false);
         }
         at += n;
     }
-    true
+    Ok(true)
 }
 
 // Reads both blocks; whether the file holds them and nothing more.
-fn read_blocks(fd: i32, moves: &mut [u16], prunes: &mut [u8]) -> bool {
-    if !read_moves(fd, moves) {
-        return false;
+fn read_blocks(file: &mut impl Read, moves: &mut [u16], prunes: &mut [u8]) -> io::Result<bool> {
+    if !read_moves(file, moves)? {
+        return Ok(false);
     }
-    if io::read_full(fd, prunes) != prunes.len() {
-        return false;
+    if stream::read_full(file, prunes)? != prunes.len() {
+        return Ok(false);
     }
     let mut more = [0u8; 1];
-    io::read_full(fd, &mut more) == 0
+    Ok(stream::read_full(file, &mut more)? == 0)
+}
+
+// Opens a file to read; none, said on standard error, where it can't be.
+fn open_read<R: Files + Eprint>(rt: &R, path: &[u8]) -> io::Result<Option<R::File>> {
+    let Some(path) = path_text(rt, path)? else {
+        return Ok(None);
+    };
+    match fs::open(rt, path) {
+        Ok(file) => Ok(Some(file)),
+        Err(e) => {
+            fail(rt, path, e)?;
+            Ok(None)
+        }
+    }
 }
 
 // Reads a file of both blocks, and whether it was one. One of another size is refused with 10; what can't be opened is said on standard error.
-pub fn read_file(path: &[u8], moves: &mut [u16], prunes: &mut [u8]) -> bool
+pub fn read_file<R: Files + Print + Eprint>(
+    rt: &R,
+    path: &[u8],
+    moves: &mut [u16],
+    prunes: &mut [u8],
+) -> io::Result<bool>
     ensures moves_len_unchanged { length moves.new ≡ length moves.old }
     ensures prunes_len_unchanged { length prunes.new ≡ length prunes.old }
 {
-    let fd = os::open_read(path);
-    if fd < 0 {
-        os::fail(path);
-        return false;
-    }
-    let whole = read_blocks(fd, moves, prunes);
-    libc::close(fd);
+    let Some(mut file) = open_read(rt, path)? else {
+        return Ok(false);
+    };
+    let whole = read_blocks(&mut file, moves, prunes)?;
     if !whole {
-        print_refused(10);
+        print_refused(rt, 10)?;
     }
-    whole
+    Ok(whole)
 }

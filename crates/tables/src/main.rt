@@ -2,168 +2,178 @@
 // `tables check FILE` reads such a file and checks it.
 #![tactic(auto)]
 
-use libc::STDOUT_FILENO;
-use std::num::wrapping_add_u64;
-use table_io::inner::{good, none_refused, part_of, read_file};
+ghost use Rattle.std.specs.Prelude.{◌≡◌, IfOk, vec_len};
+
+use std::alloc::{AllocError, Global};
+use std::io::Write;
+use std::rt::{Env, Files};
+use std::{fs, io};
+use table_io::inner::{
+    arg_count, fail, good, none_refused, part_of, path_arg, path_room, path_text, read_file,
+};
 
 // Room for the block of move tables, and for that of pruning tables.
-fn moves_room() -> [u16; 891780] {
-    [0; 891780]
+fn moves_room(alloc: Global) -> Result<Vec<u16>, AllocError>
+    ensures { IfOk result (λ v. vec_len v ≡ 891780) }
+{
+    vec![in alloc; 0; 891780]
 }
 
-fn prunes_room() -> [u8; 4031685] {
-    [0; 4031685]
+fn prunes_room(alloc: Global) -> Result<Vec<u8>, AllocError>
+    ensures { IfOk result (λ v. vec_len v ≡ 4031685) }
+{
+    vec![in alloc; 0; 4031685]
 }
 
 // ---- what is printed
 
 // A line up to the greatest entry.
-fn print_start(t: u64, entries: usize) {
-    io::write_all(STDOUT_FILENO, b"table ");
-    io::print_decimal(STDOUT_FILENO, t);
-    io::write_all(STDOUT_FILENO, b" entries ");
-    io::print_decimal(STDOUT_FILENO, entries as u64);
-    io::write_all(STDOUT_FILENO, b" greatest ");
+fn print_start(rt: &impl Print, t: u64, entries: usize) -> io::Result<()> {
+    print!(rt; "table {t} entries {entries} greatest ")
 }
 
 // And what comes after it.
-fn print_sum(sum: u64) {
-    io::write_all(STDOUT_FILENO, b" sum ");
-    io::print_hex(STDOUT_FILENO, sum, 16);
-    io::write_all(STDOUT_FILENO, b"\n");
+fn print_sum(rt: &impl Print, sum: u64) -> io::Result<()> {
+    println!(rt; " sum {sum:016x}")
 }
 
 // The line of a move table, `len` entries of the block from `at` on: it has no distances.
-fn print_moves(t: u64, moves: &[u16], at: usize, len: usize) {
+fn print_moves(rt: &impl Print, t: u64, moves: &[u16], at: usize, len: usize) -> io::Result<()> {
     if moves.len() < at {
-        return;
+        return Ok(());
     }
     if moves.len() - at < len {
-        return;
+        return Ok(());
     }
-    print_start(t, len);
-    io::write_all(STDOUT_FILENO, b"-");
-    print_sum(checksum::sum16(&moves[at..at + len]));
+    print_start(rt, t, len)?;
+    print!(rt; "-")?;
+    print_sum(rt, checksum::sum16(&moves[at..at + len]))
 }
 
 // The line of a pruning table.
-fn print_prunes(t: u64, prunes: &[u8], at: usize, len: usize) {
+fn print_prunes(rt: &impl Print, t: u64, prunes: &[u8], at: usize, len: usize) -> io::Result<()> {
     if prunes.len() < at {
-        return;
+        return Ok(());
     }
     if prunes.len() - at < len {
-        return;
+        return Ok(());
     }
-    print_start(t, len);
+    print_start(rt, t, len)?;
     let greatest = checksum::greatest(&prunes[at..at + len]);
-    io::print_decimal(STDOUT_FILENO, greatest as u64);
-    print_sum(checksum::sum8(&prunes[at..at + len]));
+    print!(rt; "{greatest}")?;
+    print_sum(rt, checksum::sum8(&prunes[at..at + len]))
 }
 
 // The ten lines.
-fn print_tables(moves: &[u16], prunes: &[u8]) {
-    print_moves(0, moves, move_table::CO_AT, 39366);
-    print_moves(1, moves, move_table::EO_AT, 36864);
-    print_moves(2, moves, move_table::E_COMBO_AT, 8910);
-    print_moves(3, moves, move_table::CP_AT, 403200);
-    print_moves(4, moves, move_table::UD_EP_AT, 403200);
-    print_moves(5, moves, move_table::E_EP_AT, 240);
-    print_prunes(6, prunes, pruning_table::CO_E_AT, 1082565);
-    print_prunes(7, prunes, pruning_table::EO_E_AT, 1013760);
-    print_prunes(8, prunes, pruning_table::CP_E_AT, 967680);
-    print_prunes(9, prunes, pruning_table::EP_E_AT, 967680);
+fn print_tables(rt: &impl Print, moves: &[u16], prunes: &[u8]) -> io::Result<()> {
+    print_moves(rt, 0, moves, move_table::CO_AT, 39366)?;
+    print_moves(rt, 1, moves, move_table::EO_AT, 36864)?;
+    print_moves(rt, 2, moves, move_table::E_COMBO_AT, 8910)?;
+    print_moves(rt, 3, moves, move_table::CP_AT, 403200)?;
+    print_moves(rt, 4, moves, move_table::UD_EP_AT, 403200)?;
+    print_moves(rt, 5, moves, move_table::E_EP_AT, 240)?;
+    print_prunes(rt, 6, prunes, pruning_table::CO_E_AT, 1082565)?;
+    print_prunes(rt, 7, prunes, pruning_table::EO_E_AT, 1013760)?;
+    print_prunes(rt, 8, prunes, pruning_table::CP_E_AT, 967680)?;
+    print_prunes(rt, 9, prunes, pruning_table::EP_E_AT, 967680)
 }
 
 // How many bytes a file of so many entries of 16 bits and so many bytes has; no memory holds as many as would wrap.
-fn print_written(entries: u64, bytes: u64) {
-    io::write_all(STDOUT_FILENO, b"written ");
-    let double = wrapping_add_u64(entries, entries);
-    io::print_decimal(STDOUT_FILENO, wrapping_add_u64(double, bytes));
-    io::write_all(STDOUT_FILENO, b"\n");
+fn print_written(rt: &impl Print, entries: u64, bytes: u64) -> io::Result<()> {
+    let double = entries.wrapping_add(entries);
+    let size = double.wrapping_add(bytes);
+    println!(rt; "written {size}")
 }
 
 // Checks the tables, says what was found, and whether they are good.
-fn print_check(moves: &[u16], prunes: &[u8]) -> bool {
-    if !good(moves, prunes) {
-        return false;
+fn print_check(rt: &impl Print, moves: &[u16], prunes: &[u8]) -> io::Result<bool> {
+    if !good(rt, moves, prunes)? {
+        return Ok(false);
     }
-    io::write_all(STDOUT_FILENO, b"check good\n");
-    true
+    println!(rt; "check good")?;
+    Ok(true)
 }
 
 // Builds the tables, prints their lines and checks them; whether they are good.
-fn build(moves: &mut [u16], prunes: &mut [u8]) -> bool {
-    if !none_refused(table_io::build(moves, prunes) as u64) {
-        return false;
+fn build(rt: &impl Print, moves: &mut [u16], prunes: &mut [u8]) -> io::Result<bool> {
+    if !none_refused(rt, table_io::build(moves, prunes) as u64)? {
+        return Ok(false);
     }
-    print_tables(moves, prunes);
-    print_check(moves, prunes)
+    print_tables(rt, moves, prunes)?;
+    print_check(rt, moves, prunes)
 }
 
 // ---- the file
 
-// Writes up to 32768 entries.
-fn write_part(fd: i32, part: &[u16]) -> bool {
+// Writes up to 32768 entries, and none of more; whether they were so few.
+fn write_part(file: &mut impl Write, part: &[u16]) -> io::Result<bool> {
     if 32768 < part.len() {
-        return false;
+        return Ok(false);
     }
     let len = 2 * part.len();
-    let mut room = io::large_buffer();
+    let mut room = [0u8; 65536];
     table_file::to_bytes(part, &mut room[..len]);
-    io::write_all(fd, &room[..len])
+    file.write_all(&room[..len])?;
+    Ok(true)
 }
 
 // Writes all entries, part by part.
-fn write_moves(fd: i32, moves: &[u16]) -> bool {
+fn write_moves(file: &mut impl Write, moves: &[u16]) -> io::Result<bool> {
     let mut at = 0;
     while at < moves.len() {
         let n = part_of(moves.len() - at);
-        if !write_part(fd, &moves[at..at + n]) {
-            return false;
+        if !write_part(file, &moves[at..at + n])? {
+            return Ok(false);
         }
         at += n;
     }
-    true
+    Ok(true)
+}
+
+// Writes both blocks to a file that it makes, or empties first; whether all entries were taken.
+fn write_blocks(files: &impl Files, path: &str, moves: &[u16], prunes: &[u8]) -> io::Result<bool> {
+    let mut file = fs::create(files, path)?;
+    if !write_moves(&mut file, moves)? {
+        return Ok(false);
+    }
+    file.write_all(prunes)?;
+    Ok(true)
 }
 
 // Writes both blocks and says how many bytes they are, or says that the file can't be written.
-fn write_file(path: &[u8], moves: &[u16], prunes: &[u8]) {
-    let fd = os::open_overwrite(path);
-    if fd < 0 {
-        os::fail(path);
-        return;
+fn write_file<R: Files + Print + Eprint>(
+    rt: &R,
+    path: &[u8],
+    moves: &[u16],
+    prunes: &[u8],
+) -> io::Result<()> {
+    let Some(path) = path_text(rt, path)? else {
+        return Ok(());
+    };
+    match write_blocks(rt, path, moves, prunes) {
+        Ok(true) => print_written(rt, moves.len() as u64, prunes.len() as u64),
+        Ok(false) => fail(rt, path, "A part has too many entries"),
+        Err(e) => fail(rt, path, e),
     }
-    if !write_moves(fd, moves) {
-        os::fail(path);
-        libc::close(fd);
-        return;
-    }
-    if !io::write_all(fd, prunes) {
-        os::fail(path);
-        libc::close(fd);
-        return;
-    }
-    if libc::close(fd) < 0 {
-        os::fail(path);
-        return;
-    }
-    print_written(moves.len() as u64, prunes.len() as u64);
 }
 
 // Reads a file and checks it; one of another size is refused with 10.
-fn check_file(path: &[u8], moves: &mut [u16], prunes: &mut [u8]) {
-    if read_file(path, moves, prunes) {
-        print_check(moves, prunes);
+fn check_file<R: Files + Print + Eprint>(
+    rt: &R,
+    path: &[u8],
+    moves: &mut [u16],
+    prunes: &mut [u8],
+) -> io::Result<()> {
+    if read_file(rt, path, moves, prunes)? {
+        print_check(rt, moves, prunes)?;
     }
+    Ok(())
 }
 
 // ---- the arguments
 
-fn print_usage() {
-    io::write_all(
-        libc::STDERR_FILENO,
-        b"usage: tables | tables FILE | tables check FILE\n",
-    );
+fn print_usage(rt: &impl Eprint) -> io::Result<()> {
+    eprintln!(rt; "usage: tables | tables FILE | tables check FILE")
 }
 
 // Whether a word is `check`.
@@ -176,54 +186,69 @@ fn is_check(word: &[u8]) -> bool {
 }
 
 // `tables FILE`, where FILE isn't the word `check`.
-fn run_write(moves: &mut [u16], prunes: &mut [u8]) {
-    let mut path = io::buffer();
-    let n = os::arg(1, &mut path);
-    if os::errno() != 0 {
-        os::fail(b"FILE");
-        return;
-    }
+fn run_write<R: Env + Files + Print + Eprint>(
+    rt: &R,
+    moves: &mut [u16],
+    prunes: &mut [u8],
+) -> io::Result<()> {
+    let mut path = path_room();
+    let Some(n) = path_arg(rt, 1, &mut path)? else {
+        return Ok(());
+    };
     if is_check(&path[..n]) {
-        print_usage();
-        return;
+        return print_usage(rt);
     }
-    if build(moves, prunes) {
-        write_file(&path[..n], moves, prunes);
+    if build(rt, moves, prunes)? {
+        write_file(rt, &path[..n], moves, prunes)?;
+    }
+    Ok(())
+}
+
+// Whether the first argument is the word `check`.
+fn is_check_arg(rt: &impl Env) -> bool {
+    let mut word = path_room();
+    match rt.arg(1, &mut word) {
+        Ok(n) => is_check(&word[..n]),
+        Err(_) => false,
     }
 }
 
 // `tables check FILE`.
-fn run_check(moves: &mut [u16], prunes: &mut [u8]) {
-    let mut word = io::buffer();
-    let k = os::arg(1, &mut word);
-    if !is_check(&word[..k]) {
-        print_usage();
-        return;
+fn run_check<R: Env + Files + Print + Eprint>(
+    rt: &R,
+    moves: &mut [u16],
+    prunes: &mut [u8],
+) -> io::Result<()> {
+    if !is_check_arg(rt) {
+        return print_usage(rt);
     }
-    let mut path = io::buffer();
-    let n = os::arg(2, &mut path);
-    if os::errno() != 0 {
-        os::fail(b"FILE");
-        return;
-    }
-    check_file(&path[..n], moves, prunes);
+    let mut path = path_room();
+    let Some(n) = path_arg(rt, 2, &mut path)? else {
+        return Ok(());
+    };
+    check_file(rt, &path[..n], moves, prunes)
 }
 
-fn run(moves: &mut [u16], prunes: &mut [u8]) {
-    let count = os::arg_count();
+fn run<R: Env + Files + Print + Eprint>(
+    rt: &R,
+    moves: &mut [u16],
+    prunes: &mut [u8],
+) -> io::Result<()> {
+    let count = arg_count(rt);
     if count < 2 {
-        build(moves, prunes);
+        build(rt, moves, prunes)?;
+        Ok(())
     } else if count == 2 {
-        run_write(moves, prunes);
+        run_write(rt, moves, prunes)
     } else if count == 3 {
-        run_check(moves, prunes);
+        run_check(rt, moves, prunes)
     } else {
-        print_usage();
+        print_usage(rt)
     }
 }
 
-fn main() {
-    let mut moves = moves_room();
-    let mut prunes = prunes_room();
-    run(&mut moves, &mut prunes);
+fn main(rt: HostRuntime) -> io::Result<()> {
+    let mut moves = moves_room(rt.alloc())?;
+    let mut prunes = prunes_room(rt.alloc())?;
+    run(&rt, moves.as_mut_slice(), prunes.as_mut_slice())
 }

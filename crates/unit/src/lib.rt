@@ -1,5 +1,6 @@
-// The C interface, for the trainer's firmware and for Rust: each function returns the paper's number, 0 for none, and writes into lent
-// bytes, which a refusal leaves as they were. A lent slice of another length than is said is refused with 10, before all else but a search's limit.
+// What the C interface offers, for Rattle: `unit_c` exports each function under the same name, for the trainer's firmware and for Rust. Each
+// returns a refusal's number, 0 for none, and writes into lent bytes, which a refusal leaves as they were. A lent slice of another length than
+// is said is refused with 10, before all else but a search's limit.
 // Each is the function of the same name in `calls`, `texts`, `coordinate`, `table_calls` or `search_calls`.
 #![tactic(auto)]
 
@@ -17,110 +18,96 @@ ghost use Rattle.table_calls.specs.Calls.{table_number, table_left, block_number
 ghost use Rattle.search_calls.specs.Calls.{solve_number, first_left, second_left};
 
 // The product of two cubes of 40 bytes each: cp 8, co 8, ep 12, eo 12.
-#[unsafe(no_mangle)]
-pub extern "C" fn tsunghawi_mul(a: &[u8], b: &[u8], out: &mut [u8]) -> u8
+pub fn tsunghawi_mul(a: &[u8], b: &[u8], out: &mut [u8]) -> u8
     ensures { Leaves (mul_call a.now b.now out.old) result out.new }
 {
     cube_calls::mul(a, b, out)
 }
 
 // The cube after one move.
-#[unsafe(no_mangle)]
-pub extern "C" fn tsunghawi_apply_move(cube: &[u8], m: u8, out: &mut [u8]) -> u8
+pub fn tsunghawi_apply_move(cube: &[u8], m: u8, out: &mut [u8]) -> u8
     ensures { Leaves (move_call cube.now m out.old) result out.new }
 {
     cube_calls::apply_move(cube, m, out)
 }
 
 // The cube after a list of moves, a byte each.
-#[unsafe(no_mangle)]
-pub extern "C" fn tsunghawi_apply_moves(cube: &[u8], moves: &[u8], out: &mut [u8]) -> u8
+pub fn tsunghawi_apply_moves(cube: &[u8], moves: &[u8], out: &mut [u8]) -> u8
     ensures { Leaves (moves_call cube.now moves.now out.old) result out.new }
 {
     cube_calls::apply_moves(cube, moves, out)
 }
 
 // Whether a cube is solved: one byte, 1 or 0.
-#[unsafe(no_mangle)]
-pub extern "C" fn tsunghawi_is_solved(cube: &[u8], out: &mut [u8]) -> u8
+pub fn tsunghawi_is_solved(cube: &[u8], out: &mut [u8]) -> u8
     ensures { Leaves (solved_call cube.now out.old) result out.new }
 {
     cube_calls::is_solved(cube, out)
 }
 
 // Whether a cube is solvable: one byte, 1 or 0.
-#[unsafe(no_mangle)]
-pub extern "C" fn tsunghawi_is_solvable(cube: &[u8], out: &mut [u8]) -> u8
+pub fn tsunghawi_is_solvable(cube: &[u8], out: &mut [u8]) -> u8
     ensures { Leaves (solvable_call cube.now out.old) result out.new }
 {
     cube_calls::is_solvable(cube, out)
 }
 
 // The four counts, a byte each: corner twists, edge flips, corner swaps, edge swaps.
-#[unsafe(no_mangle)]
-pub extern "C" fn tsunghawi_counts(cube: &[u8], out: &mut [u8]) -> u8
+pub fn tsunghawi_counts(cube: &[u8], out: &mut [u8]) -> u8
     ensures { Leaves (counts_call cube.now out.old) result out.new }
 {
     cube_calls::counts(cube, out)
 }
 
 // The move that takes `m` back: one byte.
-#[unsafe(no_mangle)]
-pub extern "C" fn tsunghawi_get_inverse(m: u8, out: &mut [u8]) -> u8
+pub fn tsunghawi_get_inverse(m: u8, out: &mut [u8]) -> u8
     ensures { Leaves (inverse_move_call m out.old) result out.new }
 {
     calls::get_inverse(m, out)
 }
 
-#[unsafe(no_mangle)]
-pub extern "C" fn tsunghawi_is_inverse(m: u8, other: u8, out: &mut [u8]) -> u8
+pub fn tsunghawi_is_inverse(m: u8, other: u8, out: &mut [u8]) -> u8
     ensures { Leaves (of_two_call is_inverse m other out.old) result out.new }
 {
     calls::is_inverse(m, other, out)
 }
 
-#[unsafe(no_mangle)]
-pub extern "C" fn tsunghawi_is_same_layer(m: u8, other: u8, out: &mut [u8]) -> u8
+pub fn tsunghawi_is_same_layer(m: u8, other: u8, out: &mut [u8]) -> u8
     ensures { Leaves (of_two_call is_same_layer m other out.old) result out.new }
 {
     calls::is_same_layer(m, other, out)
 }
 
 // Whether `current` may follow `prev`: one byte, 1 or 0.
-#[unsafe(no_mangle)]
-pub extern "C" fn tsunghawi_is_move_available(prev: u8, current: u8, out: &mut [u8]) -> u8
+pub fn tsunghawi_is_move_available(prev: u8, current: u8, out: &mut [u8]) -> u8
     ensures { Leaves (of_two_call is_available prev current out.old) result out.new }
 {
     calls::is_move_available(prev, current, out)
 }
 
 // The cube that 54 stickers are read as, as kewb reads: what matches no piece is taken for the solved one.
-#[unsafe(no_mangle)]
-pub extern "C" fn tsunghawi_read_plain(stickers: &[u8], out: &mut [u8]) -> u8
+pub fn tsunghawi_read_plain(stickers: &[u8], out: &mut [u8]) -> u8
     ensures { Leaves (read_call read_plain stickers.now out.old) result out.new }
 {
     texts::read_plain(stickers, out)
 }
 
 // The cube whose picture the 54 stickers are, and no other.
-#[unsafe(no_mangle)]
-pub extern "C" fn tsunghawi_read_strict(stickers: &[u8], out: &mut [u8]) -> u8
+pub fn tsunghawi_read_strict(stickers: &[u8], out: &mut [u8]) -> u8
     ensures { Leaves (read_call read_strict stickers.now out.old) result out.new }
 {
     texts::read_strict(stickers, out)
 }
 
 // The 54 stickers of a cube.
-#[unsafe(no_mangle)]
-pub extern "C" fn tsunghawi_picture(cube: &[u8], out: &mut [u8]) -> u8
+pub fn tsunghawi_picture(cube: &[u8], out: &mut [u8]) -> u8
     ensures { Leaves (picture_call cube.now out.old) result out.new }
 {
     texts::picture(cube, out)
 }
 
 // The moves of a text, in the first places of `list`, and how many they are.
-#[unsafe(no_mangle)]
-pub extern "C" fn tsunghawi_scramble_from_str(text: &[u8], list: &mut [u8], count: &mut usize) -> u8
+pub fn tsunghawi_scramble_from_str(text: &[u8], list: &mut [u8], count: &mut usize) -> u8
     ensures value { result ≡ parsed_number (parsed_text text.now list.old) }
     ensures list_after { list.new ≡ parsed_room text.now list.old }
     ensures count_after { count.new ≡ parsed_count (parsed_text text.now list.old) count.old }
@@ -129,8 +116,7 @@ pub extern "C" fn tsunghawi_scramble_from_str(text: &[u8], list: &mut [u8], coun
 }
 
 // The text of a list of moves, in the first bytes of `text`, and how many they are.
-#[unsafe(no_mangle)]
-pub extern "C" fn tsunghawi_scramble_to_str(list: &[u8], text: &mut [u8], count: &mut usize) -> u8
+pub fn tsunghawi_scramble_to_str(list: &[u8], text: &mut [u8], count: &mut usize) -> u8
     ensures value { result ≡ written_number (written_text list.now (text_of list.now) text.old) }
     ensures text_after { text.new ≡ written_room list.now (text_of list.now) text.old }
     ensures count_after { count.new ≡ written_count (written_text list.now (text_of list.now) text.old) count.old }
@@ -139,8 +125,7 @@ pub extern "C" fn tsunghawi_scramble_to_str(list: &[u8], text: &mut [u8], count:
 }
 
 // Whether moves solve a cube: what the program `judge` prints for `input`, in the first of 64 bytes, and how many they are.
-#[unsafe(no_mangle)]
-pub extern "C" fn tsunghawi_judge(input: &[u8], out: &mut [u8], count: &mut usize) -> u8
+pub fn tsunghawi_judge(input: &[u8], out: &mut [u8], count: &mut usize) -> u8
     ensures value { result ≡ judge_number out.old }
     ensures out_after { out.new ≡ judge_room input.now out.old }
     ensures count_after { count.new ≡ judge_count input.now out.old count.old }
@@ -149,8 +134,7 @@ pub extern "C" fn tsunghawi_judge(input: &[u8], out: &mut [u8], count: &mut usiz
 }
 
 // The number of an arrangement, `kind` being 0 co, 1 eo, 2 e_combo, 3 cp, 4 ud_ep, 5 e_ep, 6 ep: 8 places for co and cp, else 12.
-#[unsafe(no_mangle)]
-pub extern "C" fn tsunghawi_arrangement_to_index(kind: u8, places: &[u8], number: &mut u32) -> u8
+pub fn tsunghawi_arrangement_to_index(kind: u8, places: &[u8], number: &mut u32) -> u8
     ensures value { result ≡ index_number kind places.now }
     ensures number_after { number.new ≡ index_left kind places.now number.old }
 {
@@ -158,8 +142,7 @@ pub extern "C" fn tsunghawi_arrangement_to_index(kind: u8, places: &[u8], number
 }
 
 // The arrangement of a number, of the same kinds.
-#[unsafe(no_mangle)]
-pub extern "C" fn tsunghawi_index_to_arrangement(kind: u8, number: u32, places: &mut [u8]) -> u8
+pub fn tsunghawi_index_to_arrangement(kind: u8, number: u32, places: &mut [u8]) -> u8
     ensures value { result ≡ arrange_number kind number places.old }
     ensures places_after { places.new ≡ arrange_left kind number places.old }
 {
@@ -167,8 +150,7 @@ pub extern "C" fn tsunghawi_index_to_arrangement(kind: u8, number: u32, places: 
 }
 
 // Move table t, 0 to 5.
-#[unsafe(no_mangle)]
-pub extern "C" fn tsunghawi_get_move_table(t: u8, table: &mut [u16]) -> u8
+pub fn tsunghawi_get_move_table(t: u8, table: &mut [u16]) -> u8
     ensures value { result ≡ table_number t table.old }
     ensures table_after { table.new ≡ table_left t table.old }
 {
@@ -176,8 +158,7 @@ pub extern "C" fn tsunghawi_get_move_table(t: u8, table: &mut [u16]) -> u8
 }
 
 // All six move tables in one block.
-#[unsafe(no_mangle)]
-pub extern "C" fn tsunghawi_get_move_tables(moves: &mut [u16]) -> u8
+pub fn tsunghawi_get_move_tables(moves: &mut [u16]) -> u8
     ensures value { result ≡ block_number moves.old }
     ensures moves_after { moves.new ≡ block_left moves.old }
 {
@@ -185,21 +166,14 @@ pub extern "C" fn tsunghawi_get_move_tables(moves: &mut [u16]) -> u8
 }
 
 // Pruning table t, 6 to 9, by its two move tables. After 14 the lent table is changed: pairs out of reach hold 255.
-#[unsafe(no_mangle)]
-pub extern "C" fn tsunghawi_get_prune_table(
-    t: u8,
-    first: &[u16],
-    second: &[u16],
-    table: &mut [u8],
-) -> u8
+pub fn tsunghawi_get_prune_table(t: u8, first: &[u16], second: &[u16], table: &mut [u8]) -> u8
     ensures { PruneCall t first.now second.now table.old table.new result }
 {
     prune_calls::get_prune_table(t, first, second, table)
 }
 
 // A pruning table by two move tables of any numbers of rows, 1 to 65,536 each, and of up to 256 moves.
-#[unsafe(no_mangle)]
-pub extern "C" fn tsunghawi_get_pairs_table(
+pub fn tsunghawi_get_pairs_table(
     first: &[u16],
     second: &[u16],
     table: &mut [u8],
@@ -213,16 +187,14 @@ pub extern "C" fn tsunghawi_get_pairs_table(
 }
 
 // All four pruning tables in one block, by the block of move tables. After 14 the lent block is changed in the same way.
-#[unsafe(no_mangle)]
-pub extern "C" fn tsunghawi_get_prune_tables(moves: &[u16], prunes: &mut [u8]) -> u8
+pub fn tsunghawi_get_prune_tables(moves: &[u16], prunes: &mut [u8]) -> u8
     ensures { PrunesCall moves.now prunes.old prunes.new result }
 {
     prune_calls::get_prune_tables(moves, prunes)
 }
 
 // The check of all ten tables: 0, 10, or 13 + 256 * the lowest bad table + 65536 * its lowest bad entry; the low byte is the paper's number.
-#[unsafe(no_mangle)]
-pub extern "C" fn tsunghawi_check_tables(moves: &[u16], prunes: &[u8]) -> u64
+pub fn tsunghawi_check_tables(moves: &[u16], prunes: &[u8]) -> u64
     ensures { CheckCall moves.now prunes.now result }
 {
     table_calls::check_tables(moves, prunes)
@@ -230,8 +202,7 @@ pub extern "C" fn tsunghawi_check_tables(moves: &[u16], prunes: &[u8]) -> u64
 
 // Turns that solve the cube of 40 bytes, in two rooms of 31 bytes each, which only a solved answer writes. Returned is the paper's number in
 // the low byte; then 0 solved, 1 none or 2 spent; then the lengths of the two lists, a byte each; and above them, in 32 bits, the entries made.
-#[unsafe(no_mangle)]
-pub extern "C" fn tsunghawi_solve(
+pub fn tsunghawi_solve(
     cube: &[u8],
     limit: u8,
     budget: u32,

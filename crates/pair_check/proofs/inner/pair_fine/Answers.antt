@@ -1,9 +1,8 @@
 -- `pair_check::inner::pair_fine` meets its contract.
 -- The loop's invariant: of the first m neighbours none is below v - 1, and `one` says whether one holds v - 1. Assumes nothing.
 use mathlib.Core.Path.{◌≡◌, ap, ◌∙◌}
-use Prim.Native.Nat.{ℕ, ◌-◌, ◌/◌, ◌%◌, ◌≤◌}
+use Prim.Native.Nat.{◌-◌, ◌/◌, ◌%◌, ◌≤◌}
 use native.Mathlib.Omega.{arith}
-use lib.ListN.{get_or}
 use Rattle.pair_table.specs.Pairs.{next, held}
 use Rattle.pair_table.proofs.Steps.{in_row, row_lt, col-lt}
 use Rattle.pair_table.proofs.Held.{held_in}
@@ -39,8 +38,8 @@ loop-m-preserved c =
     let low : dist a.p - 1 ≤ dist (step a.p c.loop-m.m) = omega (arith, v-is, w-is) in
     let seen = c.loop-m.invariant.1 in (
       omega arith,
-      elim c.if-w-v-2.branch
-      [ then-w-v-2 w ↦ rw w.one-is (seen_one step a.k dist a.p c.loop-m.m _ seen low (omega (arith, v-is, w-is)))
-      | else-w-v-2 w ↦ rw w.one-is (seen_more step a.k dist a.p c.loop-m.m _ seen low (omega (arith, v-is, w-is)))
+      elim c.if-w-v-2.branch [
+        | then-w-v-2 w ↦ rw w.one-is (seen_one step a.k dist a.p c.loop-m.m _ seen low (omega (arith, v-is, w-is)))
+        | else-w-v-2 w ↦ rw w.one-is (seen_more step a.k dist a.p c.loop-m.m _ seen low (omega (arith, v-is, w-is)))
       ],
     )

@@ -1,0 +1,25 @@
+// What the programs read: as many bytes as there is room for.
+#![tactic(auto)]
+
+ghost use Rattle.std.specs.Prelude.{◌≤◌, ◌<◌, length, take, IfOk};
+ghost use Rattle.std.specs.Io.KnownBytes.{Consumes, IsAtEnd};
+
+use std::io;
+use std::io::Read;
+
+// Reads until `room` is full or the input ends; how many bytes now stand at the start of `room`. It ends at the first read that fails.
+pub fn read_full<R: Read>(reader: &mut R, room: &mut [u8]) -> io::Result<usize>
+    ensures bound { IfOk result (λ n. n ≤ length room.new) }
+    ensures bytes { IfOk result (λ n. Consumes (R.remaining reader.old) (R.remaining reader.new) (take n room.new)) }
+    ensures end { IfOk result (λ n. n < length room.new → IsAtEnd (R.remaining reader.new)) }
+{
+    let mut done = 0;
+    while done < room.len() {
+        let n = reader.read(&mut room[done..])?;
+        if n == 0 {
+            return Ok(done);
+        }
+        done += n;
+    }
+    Ok(done)
+}
