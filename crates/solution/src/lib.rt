@@ -10,7 +10,6 @@ ghost use Rattle.solution.specs.Drawing.{drawing, net_text};
 ghost use Rattle.solution.specs.Request.{amount_of, budget_text, limit_text, solution_text};
 ghost use Rattle.solution.specs.Text.{turns_line, count_lines, solved_text, answer_text, printed_as};
 
-
 use cubie::CubieCube;
 use lines::inner::{find, put_bytes, put_line, text_start};
 use lines::{MOVES, REFUSED, STROKES};

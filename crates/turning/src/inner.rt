@@ -4,7 +4,6 @@ ghost use Rattle.base.specs.Lists.{Under, total};
 ghost use Rattle.base.specs.Parity.{swaps, Settled};
 ghost use Rattle.base.specs.Product.{compose, twisted};
 
-
 // One place of the selection loop: where place `i` does not hold `i`, it is swapped with the first later place that does.
 fn settle(p: &mut [u8], i: usize) -> u8
     requires { i < length p.old }

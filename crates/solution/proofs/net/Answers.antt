@@ -17,7 +17,7 @@ use Rattle.solution.proofs.Stickers.{drawn-length}
 use Rattle.solution.proofs.net.Goals as goal
 
 pub returns-then-input-gt1024 : goal.returns-then-input-gt1024
-returns-then-input-gt1024 c =  record { value = c.print_refused.ensures.0 ∙ ap printed_as (sym (net-long c.args.input.now c.if-input-gt1024.true)); len_bound = c.print_refused.ensures.1 }
+returns-then-input-gt1024 c = record { value = c.print_refused.ensures.0 ∙ ap printed_as (sym (net-long c.args.input.now c.if-input-gt1024.true)); len_bound = c.print_refused.ensures.1 }
 
 pub returns-then-end-ne54 : goal.returns-then-end-ne54
 returns-then-end-ne54 c =

@@ -20,7 +20,7 @@ pub text_start-start-requires : goal.text_start-start-requires
 text_start-start-requires c = c.find-end.ensures.within
 
 pub returns-then-input-gt1024 : goal.returns-then-input-gt1024
-returns-then-input-gt1024 c =  record { value = c.print_refused.ensures.0 ∙ ap printed_as (sym (solution-long c.args.input.now c.args.moves.now c.args.prunes.now c.if-input-gt1024.true)); len_bound = c.print_refused.ensures.1 }
+returns-then-input-gt1024 c = record { value = c.print_refused.ensures.0 ∙ ap printed_as (sym (solution-long c.args.input.now c.args.moves.now c.args.prunes.now c.if-input-gt1024.true)); len_bound = c.print_refused.ensures.1 }
 
 pub slice_bounds-read_strict-end : goal.slice_bounds-read_strict-end
 slice_bounds-read_strict-end c = sym (length-take-le c.find-end.result c.args.input.now c.find-end.ensures.within)

@@ -1,5 +1,5 @@
 -- `lines::inner::find` meets its contract. The loop keeps the answer: what is left gives the same as the whole. Assumes nothing.
-use Rattle.std.proofs.Common.{◌≡◌, ◌≤◌, ◌+◌, ◌-◌, length, drop, arith}
+use Rattle.std.proofs.Common.{arith}
 use Rattle.lines.proofs.Parts.{find_here, find_on, find_end}
 use Rattle.lines.proofs.inner.find.Goals as goal
 

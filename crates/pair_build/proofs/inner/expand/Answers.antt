@@ -1,6 +1,6 @@
 -- `pair_build::inner::expand` meets its contract. The loop's invariant is the contract's, at the moves tried so far. Assumes nothing.
 use mathlib.Core.Path.{◌≡◌, sym, ap, ◌∙◌}
-use Prim.Native.Nat.{ℕ, ◌-◌, ◌/◌, ◌%◌, ◌<◌}
+use Prim.Native.Nat.{◌/◌, ◌%◌, ◌<◌}
 use native.Mathlib.Omega.{arith}
 use lib.ListN.{length, length-set, get_or}
 use Rattle.pair_table.specs.Pairs.{next, held}
@@ -34,8 +34,8 @@ loop-m-preserved c =
     let l : step a.p m < length tab = rw q-is at q-in in (
       omega arith,
       elim c.if-tab-q.branch [ then-tab-q w ↦ rw w.tab-is (simp length-set inv.1) | else-tab-q w ↦ rw w.tab-is inv.1 ],
-      elim c.if-tab-q.branch
-      [ then-tab-q w ↦ rw (w.tab-is, q-is) (expanded-set step a.p a.d m a.tab.now tab inv.2 l (sym reads ∙ w.if-tab-q.true))
-      | else-tab-q w ↦ rw w.tab-is (expanded-keep step a.p a.d m a.tab.now tab inv.2 (λ e. w.if-tab-q.false (reads ∙ e)))
+      elim c.if-tab-q.branch [
+        | then-tab-q w ↦ rw (w.tab-is, q-is) (expanded-set step a.p a.d m a.tab.now tab inv.2 l (sym reads ∙ w.if-tab-q.true))
+        | else-tab-q w ↦ rw w.tab-is (expanded-keep step a.p a.d m a.tab.now tab inv.2 (λ e. w.if-tab-q.false (reads ∙ e)))
       ],
     )

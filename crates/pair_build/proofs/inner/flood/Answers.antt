@@ -2,9 +2,8 @@
 -- A sweep that met no pair changed nothing, and then no walk leads on (`stuck`). Assumes nothing.
 use mathlib.Core.Path.{◌≡◌, sym, subst, ◌∙◌}
 use mathlib.Core.List.{List}
-use Prim.Native.Nat.{ℕ, ◌*◌, ◌-◌}
+use Prim.Native.Nat.{ℕ, ◌*◌}
 use native.Mathlib.Omega.{arith}
-use lib.ListN.{length}
 use Rattle.pair_table.specs.Pairs.{next}
 use Rattle.pair_table.specs.Answers.{Layer}
 use Rattle.pair_table.proofs.Steps.{ready-closed, ready-pos}

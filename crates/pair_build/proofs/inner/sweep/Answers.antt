@@ -1,9 +1,7 @@
 -- `pair_build::inner::sweep` meets its contract.
 -- The loop's invariant: what is known when the pairs below p have been passed (`Swept`), and that nothing was written while none held d. Assumes nothing.
 use mathlib.Core.Path.{◌≡◌, sym, subst, ◌∙◌}
-use mathlib.Core.Bool.{true}
-use mathlib.Core.Logic.{⊎_elim}
-use Prim.Native.Nat.{ℕ, ◌*◌, ◌-◌, ◌<◌}
+use Prim.Native.Nat.{◌*◌, ◌<◌}
 use native.Mathlib.Omega.{arith}
 use lib.Dec.{T}
 use lib.ListN.{length}
@@ -21,15 +19,15 @@ loop-p-preserved c =
     let l = c.loop-p in
     let e = held_in l.tab l.p 0 (omega arith) in
     let lp : l.p < a.n1 * a.n2 = omega (arith, c.requires.ready.sized.pairs) in
-    elim c.if-tab-p.branch
-    [ then-tab-p w ↦
-      let tab' = w.expand.new.tab in
-      let len : length tab' ≡ length l.tab = w.expand.ensures.tab_len_unchanged in
-      let h : held l.tab l.p ≡ a.d = sym e ∙ w.if-tab-p.true in
-      rw (w.tab-is, w.met-is)
-      (omega arith, len ∙ l.invariant.1, swept-expand step a.k a.d (a.n1 * a.n2) l.p l.tab l.invariant.2 lp c.requires.d_bound tab' h w.expand.ensures.expanded, λ f. absurd (subst T f tt))
-    | else-tab-p w ↦
-      rw (w.tab-is, w.met-is) (omega arith, l.invariant.1, swept-skip step a.k a.d (a.n1 * a.n2) l.p l.tab l.invariant.2 lp c.requires.d_bound (λ h. w.if-tab-p.false (e ∙ h)), l.invariant.3)
+    elim c.if-tab-p.branch [
+      | then-tab-p w ↦
+          let tab' = w.expand.new.tab in
+          let len : length tab' ≡ length l.tab = w.expand.ensures.tab_len_unchanged in
+          let h : held l.tab l.p ≡ a.d = sym e ∙ w.if-tab-p.true in
+          rw (w.tab-is, w.met-is)
+          (omega arith, len ∙ l.invariant.1, swept-expand step a.k a.d (a.n1 * a.n2) l.p l.tab l.invariant.2 lp c.requires.d_bound tab' h w.expand.ensures.expanded, λ f. absurd (subst T f tt))
+      | else-tab-p w ↦
+          rw (w.tab-is, w.met-is) (omega arith, l.invariant.1, swept-skip step a.k a.d (a.n1 * a.n2) l.p l.tab l.invariant.2 lp c.requires.d_bound (λ h. w.if-tab-p.false (e ∙ h)), l.invariant.3)
     ]
 
 pub returns-clause-layer_2 : goal.returns-clause-layer_2
