@@ -35,6 +35,13 @@ build_library() {
     [ -f "$UNIT_LIB" ] || die "no library $UNIT_LIB"
 }
 
+# build_program NAME: proves and builds one of the product's programs, which stays as crates/NAME/out/NAME. Its input is empty here.
+build_program() {
+    need rt "the product's programs are built by it"
+    (cd "$ROOT/crates/$1" && rt run < /dev/null > /dev/null) || die "rt run failed in crates/$1"
+    [ -x "$ROOT/crates/$1/out/$1" ] || die "no program crates/$1/out/$1"
+}
+
 # build_driver: links the driver with the product's library.
 build_driver() {
     need cargo "the driver is built with Rust's cargo"
