@@ -6,7 +6,8 @@
  * low byte of a word. A function that refuses writes nothing, but for 14, which leaves the table that it could not finish.
  *
  * Lent memory is a pointer and a length, counted in elements. Its caller answers for three things: so many elements are there, they have been
- * set, and what a call may write overlaps nothing else that is lent to it. A length that isn't the one asked for is refused with 10 before all else, but for the limit of a search (9) and for text (7).
+ * set, and what a call may write overlaps nothing else that is lent to it. A length that isn't the one asked for is refused with 10 before
+ * all else, but for the limit of a search (9) and for text (7).
  *
  * A cube is 40 bytes: 8 corners, their 8 twists, 12 edges, their 12 flips, by place. A cube is in range if its corners are below 8 (else 4),
  * its edges below 12 (else 5), its twists below 3 and its flips below 2 (else 6). Moves are numbered
