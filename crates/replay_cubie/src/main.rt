@@ -2,10 +2,9 @@
 // input holds a case a line (oracle/README.md).
 #![tactic(auto)]
 
-ghost use Rattle.std.specs.Prelude.{◌≡◌, ◌≤◌, IfOk, vec_len};
+ghost use Rattle.std.specs.Prelude.{◌≤◌};
 
 use replay::{part_at, unhex};
-use std::alloc::{AllocError, Global};
 use std::io;
 
 // Runs a case of a kind on what it was given; 255 is no kind.
@@ -296,16 +295,12 @@ fn build(moves: &mut [u16], prunes: &mut [u8]) -> u8 {
 }
 
 // Room for the block of move tables, and for that of pruning tables.
-fn moves_room(alloc: Global) -> Result<Vec<u16>, AllocError>
-    ensures { IfOk result (λ v. vec_len v ≡ 891780) }
-{
-    vec![in alloc; 0; 891780]
+fn moves_room() -> [u16; 891780] {
+    [0; 891780]
 }
 
-fn prunes_room(alloc: Global) -> Result<Vec<u8>, AllocError>
-    ensures { IfOk result (λ v. vec_len v ≡ 4031685) }
-{
-    vec![in alloc; 0; 4031685]
+fn prunes_room() -> [u8; 4031685] {
+    [0; 4031685]
 }
 
 // Room for the recorded text.
@@ -321,11 +316,11 @@ fn replay_input<R: Input + Print>(rt: &R, moves: &[u16], prunes: &[u8]) -> io::R
 }
 
 fn main(rt: HostRuntime) -> io::Result<()> {
-    let mut moves = moves_room(rt.alloc())?;
-    let mut prunes = prunes_room(rt.alloc())?;
-    let refused = build(moves.as_mut_slice(), prunes.as_mut_slice());
+    let mut moves = moves_room();
+    let mut prunes = prunes_room();
+    let refused = build(&mut moves, &mut prunes);
     if refused != 0 {
         return tell_refused(&rt, refused);
     }
-    replay_input(&rt, moves.as_slice(), prunes.as_slice())
+    replay_input(&rt, &moves, &prunes)
 }

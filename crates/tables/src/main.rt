@@ -2,9 +2,6 @@
 // `tables check FILE` reads such a file and checks it.
 #![tactic(auto)]
 
-ghost use Rattle.std.specs.Prelude.{◌≡◌, IfOk, vec_len};
-
-use std::alloc::{AllocError, Global};
 use std::io::Write;
 use std::rt::{Env, Files};
 use std::{fs, io};
@@ -13,16 +10,12 @@ use table_io::inner::{
 };
 
 // Room for the block of move tables, and for that of pruning tables.
-fn moves_room(alloc: Global) -> Result<Vec<u16>, AllocError>
-    ensures { IfOk result (λ v. vec_len v ≡ 891780) }
-{
-    vec![in alloc; 0; 891780]
+fn moves_room() -> [u16; 891780] {
+    [0; 891780]
 }
 
-fn prunes_room(alloc: Global) -> Result<Vec<u8>, AllocError>
-    ensures { IfOk result (λ v. vec_len v ≡ 4031685) }
-{
-    vec![in alloc; 0; 4031685]
+fn prunes_room() -> [u8; 4031685] {
+    [0; 4031685]
 }
 
 // ---- what is printed
@@ -248,7 +241,7 @@ fn run<R: Env + Files + Print + Eprint>(
 }
 
 fn main(rt: HostRuntime) -> io::Result<()> {
-    let mut moves = moves_room(rt.alloc())?;
-    let mut prunes = prunes_room(rt.alloc())?;
-    run(&rt, moves.as_mut_slice(), prunes.as_mut_slice())
+    let mut moves = moves_room();
+    let mut prunes = prunes_room();
+    run(&rt, &mut moves, &mut prunes)
 }
