@@ -7,7 +7,7 @@ ghost use Rattle.std.specs.Io.KnownBytes.{Consumes, IsAtEnd};
 use std::io;
 use std::io::Read;
 
-// Reads until `room` is full or the input ends; how many bytes now stand at the start of `room`. It ends at the first read that fails.
+// Reads until `room` is full or the input ends; how many bytes now stand at the start of `room`. A read that fails is its error.
 pub fn read_full<R: Read>(reader: &mut R, room: &mut [u8]) -> io::Result<usize>
     ensures bound { IfOk result (λ n. n ≤ length room.new) }
     ensures bytes { IfOk result (λ n. Consumes (R.remaining reader.old) (R.remaining reader.new) (take n room.new)) }
