@@ -9,6 +9,9 @@ use native.Mathlib.Omega.{arith}
 use lib.Dec.{eqb}
 use lib.ListN.{length, get_or, take, drop}
 use borrow.Author.Tests.{eqb-true, eq-eqb, ltb-true, lt-ltb}
+use lib.Dec.{ltb}
+use Rattle.std.specs.Cmp.Lexicographic.{pointwise}
+use Rattle.std.specs.List.{list_all}
 use Rattle.base.specs.Lists.{all_below, Under, in_range, same_list}
 use Rattle.base.specs.Perm.{same, count, no_repeat}
 use Rattle.base.proofs.Perm.{same-is, same-cut, total-map, total_ext}
@@ -46,6 +49,19 @@ in_range-under n (x ∷ xs) e = let p = and-true _ _ e in (ltb-true x n p.0, in_
 pub under-in_range : (n : ℕ) (xs : List ℕ) → Under n xs → in_range n xs ≡ true
 under-in_range n [] u = refl
 under-in_range n (x ∷ xs) u = ap (λ (b : Bool). b && in_range n xs) (lt-ltb x n u.0) ∙ under-in_range n xs u.1
+
+-- what `all` answers of a slice where its closure tests for being below n
+pub all_in_range : (n : ℕ) (xs : List ℕ) → list_all (λ x. ltb x n) xs ≡ in_range n xs
+all_in_range n [] = refl
+all_in_range n (x ∷ xs) = ap (λ (b : Bool). ltb x n && b) (all_in_range n xs)
+
+-- what `==` answers of two slices
+pub eq_same_list : (l k : List ℕ) → pointwise eqb l k ≡ same_list l k
+unfolding same_list
+eq_same_list [] [] = refl
+eq_same_list [] (y ∷ k) = refl
+eq_same_list (x ∷ l) [] = refl
+eq_same_list (x ∷ l) (y ∷ k) = ap (λ (b : Bool). eqb x y && b) (eq_same_list l k)
 
 pub no_repeat-once : (xs : List ℕ) → no_repeat xs ≡ true → (a : ℕ) → count a xs ≤ 1
 no_repeat-once [] e a = omega arith

@@ -1,17 +1,12 @@
 -- What a call on lent bytes returns and leaves in them. Assumes nothing: these are definitions.
-use Rattle.std.specs.Prelude.{◌≡◌, Bool, ◌&&◌, List, [], ◌∷◌, ℕ, eqb, length}
-use Rattle.base.specs.Lists.{pick}
+use Rattle.std.specs.Prelude.{◌≡◌, Bool, ◌&&◌, List, [], ◌∷◌, ℕ, eqb, length, Result, Ok, Err}
+use Rattle.base.specs.Lists.{pick, bit}
+use Rattle.refusal.specs.declared.Refusal.{Refusal}
+use Rattle.refusal.specs.Refusals.{number, answered}
 use Rattle.moves.specs.Answers.{of_two, inverse_move_answer}
-use Rattle.moves.specs.declared.Answer.{Answer}
-use Rattle.moves.specs.declared.Answer.TheVariants.{Yes, No, Refused}
-use Rattle.moves.specs.declared.Number.{Number}
-use Rattle.moves.specs.declared.Number.TheVariants as number
-use Rattle.moves.specs.declared.Verdict.{Verdict}
-use Rattle.moves.specs.declared.Verdict.TheVariants as verdict
 use Rattle.cubie.specs.Answers.{mul_answer, move_answer, moves_answer, solved_answer, solvable_answer}
 use Rattle.cubie.specs.Cube.{refusal_of, bytes_of, cube_of}
 use Rattle.cubie.specs.Solvable.{corner_twist, edge_twist, corner_perm, edge_perm}
-use Rattle.cubie.specs.declared.CubeAnswer.{CubeAnswer}
 use Rattle.cubie.specs.declared.CubieCube.{CubieCube}
 
 -- the number that a call returns, and the lent bytes after it
@@ -30,22 +25,20 @@ refuse n before = record { number = n; bytes = before }
 abbrev pub leave : List ℕ → Left
 leave bytes = record { number = 0; bytes = bytes }
 
--- the number and the value of each case of an answer
-abbrev pub verdict_left : Verdict → CubieCube → List ℕ → Left
-verdict_left verdict.Good c before = leave (bytes_of c)
-verdict_left (verdict.Refused n) c before = refuse n before
+-- the bytes of a value, or a refusal's number
+abbrev pub answer_left : {A : Type 0} → (A → List ℕ) → Result A Refusal → List ℕ → Left
+answer_left bytes (Ok a) before = leave (bytes a)
+answer_left bytes (Err r) before = refuse (number r) before
 
-abbrev pub cube_left : CubeAnswer → List ℕ → Left
-cube_left a before = verdict_left a.verdict a.cube before
+-- a cube in 40 bytes; yes or no in one, 1 or 0; a number in one
+abbrev pub cube_left : Result CubieCube Refusal → List ℕ → Left
+cube_left = answer_left bytes_of
 
-abbrev pub answer_left : Answer → List ℕ → Left
-answer_left Yes before = leave (1 ∷ [])
-answer_left No before = leave (0 ∷ [])
-answer_left (Refused n) before = refuse n before
+abbrev pub bool_left : Result Bool Refusal → List ℕ → Left
+bool_left = answer_left (λ b. bit b ∷ [])
 
-abbrev pub number_left : Number → List ℕ → Left
-number_left (number.Is k) before = leave (k ∷ [])
-number_left (number.Refused n) before = refuse n before
+abbrev pub number_left : Result ℕ Refusal → List ℕ → Left
+number_left = answer_left (λ k. k ∷ [])
 
 -- 10 unless the lengths are those that are asked for
 abbrev pub sized : Bool → Left → List ℕ → Left
@@ -64,21 +57,20 @@ abbrev pub moves_call : List ℕ → List ℕ → List ℕ → Left
 moves_call s ms out = sized (eqb (length s) 40 && eqb (length out) 40) (cube_left (moves_answer (cube_of s) ms) out) out
 
 abbrev pub solved_call : List ℕ → List ℕ → Left
-solved_call s out = sized (eqb (length s) 40 && eqb (length out) 1) (answer_left (solved_answer (cube_of s)) out) out
+solved_call s out = sized (eqb (length s) 40 && eqb (length out) 1) (bool_left (solved_answer (cube_of s)) out) out
 
 abbrev pub solvable_call : List ℕ → List ℕ → Left
-solvable_call s out = sized (eqb (length s) 40 && eqb (length out) 1) (answer_left (solvable_answer (cube_of s)) out) out
+solvable_call s out = sized (eqb (length s) 40 && eqb (length out) 1) (bool_left (solvable_answer (cube_of s)) out) out
 
 abbrev pub four_counts : CubieCube → List ℕ
 four_counts c = corner_twist c ∷ edge_twist c ∷ corner_perm c ∷ edge_perm c ∷ []
 
 abbrev pub counts_call : List ℕ → List ℕ → Left
 counts_call s out =
-    sized (eqb (length s) 40 && eqb (length out) 4)
-    (pick (eqb (refusal_of (cube_of s)) 0) (leave (four_counts (cube_of s))) (refuse (refusal_of (cube_of s)) out)) out
+    sized (eqb (length s) 40 && eqb (length out) 4) (answer_left (λ counts. counts) (answered (refusal_of (cube_of s)) (four_counts (cube_of s))) out) out
 
 abbrev pub inverse_move_call : ℕ → List ℕ → Left
 inverse_move_call m out = sized (eqb (length out) 1) (number_left (inverse_move_answer m) out) out
 
 abbrev pub of_two_call : (ℕ → ℕ → Bool) → ℕ → ℕ → List ℕ → Left
-of_two_call f m n out = sized (eqb (length out) 1) (answer_left (of_two f m n) out) out
+of_two_call f m n out = sized (eqb (length out) 1) (bool_left (of_two f m n) out) out

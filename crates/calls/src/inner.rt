@@ -1,55 +1,28 @@
-// Cubes and answers as lent bytes.
-ghost use Rattle.std.specs.Prelude.{◌≡◌, length};
-ghost use Rattle.calls.specs.Calls.{Leaves, cube_left, answer_left, number_left};
+// Lent bytes of a length that is said, and cubes in them.
+ghost use Rattle.std.specs.Prelude.{◌≡◌, length, IfOk, IfErr, IsErrOf};
+ghost use Rattle.cubie.specs.Cube.{cube_of};
+ghost use Rattle.refusal.specs.declared.Refusal.TheVariants.{Length};
 
-use cube_bytes::inner::put_cube;
-use cubie::CubeAnswer;
-use moves::{Answer, Number, Verdict};
+use cubie::CubieCube;
+use refusal::Refusal;
 
-// The number of an answer; its cube is written, unless it is refused.
-pub fn leave_cube(a: CubeAnswer, out: &mut [u8]) -> u8
-    requires { length out.old ≡ 40 }
-    ensures { Leaves (cube_left a out.old) result out.new }
+// Refuses lent bytes of another length than is said, with 10.
+pub fn check_len(bytes: &[u8], n: usize) -> Result<(), Refusal>
+    ensures ok { IfOk result (λ _. length bytes.now ≡ n) }
+    ensures err { IfErr result (λ r. (r ≡ Length) × (length bytes.now ≡ n → ⊥)) }
 {
-    let verdict = a.verdict;
-    match verdict {
-        Verdict::Refused(n) => n,
-        Verdict::Good => {
-            let cube = a.cube;
-            put_cube(cube, out);
-            0
-        }
+    if bytes.len() == n {
+        Ok(())
+    } else {
+        Err(Refusal::Length)
     }
 }
 
-// The same for yes or no, in one byte: 1 or 0.
-pub fn leave_answer(a: Answer, out: &mut [u8]) -> u8
-    requires { length out.old ≡ 1 }
-    ensures { Leaves (answer_left a out.old) result out.new }
+// The cube in 40 lent bytes; 10 for another number of them.
+pub fn cube_at(bytes: &[u8]) -> Result<CubieCube, Refusal>
+    ensures ok { IfOk result (λ c. (length bytes.now ≡ 40) × (c ≡ cube_of bytes.now)) }
+    ensures err { IfErr result (λ r. (r ≡ Length) × (length bytes.now ≡ 40 → ⊥)) }
 {
-    match a {
-        Answer::Refused(n) => n,
-        Answer::Yes => {
-            out[0] = 1;
-            0
-        }
-        Answer::No => {
-            out[0] = 0;
-            0
-        }
-    }
-}
-
-// The same for a number, in one byte.
-pub fn leave_number(a: Number, out: &mut [u8]) -> u8
-    requires { length out.old ≡ 1 }
-    ensures { Leaves (number_left a out.old) result out.new }
-{
-    match a {
-        Number::Refused(n) => n,
-        Number::Is(k) => {
-            out[0] = k;
-            0
-        }
-    }
+    check_len(bytes, 40)?;
+    Ok(cube_bytes::inner::cube_of(bytes))
 }

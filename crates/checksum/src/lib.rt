@@ -23,8 +23,8 @@ pub fn sum8(s: &[u8]) -> u64
     ensures { result ≡ fnv s.now }
 {
     let mut sum = OFFSET;
-    for i in 0..s.len() {
-        sum = step(sum, s[i]);
+    for x in s {
+        sum = step(sum, *x);
     }
     sum
 }
@@ -34,9 +34,9 @@ pub fn sum16(s: &[u16]) -> u64
     ensures { result ≡ fnv (bytes16 s.now) }
 {
     let mut sum = OFFSET;
-    for i in 0..s.len() {
-        let x = s[i];
-        sum = step(step(sum, (x % 256) as u8), (x / 256) as u8);
+    for x in s {
+        let [low, high] = x.to_le_bytes();
+        sum = step(step(sum, low), high);
     }
     sum
 }
@@ -46,11 +46,8 @@ pub fn greatest(s: &[u8]) -> u8
     ensures { result ≡ greatest_of s.now }
 {
     let mut most: u8 = 0;
-    for i in 0..s.len() {
-        let x = s[i];
-        if most < x {
-            most = x;
-        }
+    for x in s {
+        most = most.max(*x);
     }
     most
 }

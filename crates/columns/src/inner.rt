@@ -4,7 +4,7 @@ ghost use Rattle.std.specs.Int.Count.{count_trailing_zeros};
 ghost use Rattle.base.specs.Sets.{columns_of};
 ghost use Rattle.moves.specs.Moves.{all_moves, phase2_moves, phase1_move, phase2_move, open_of};
 
-use crate::{ALL_MOVES, NO_MOVE, PHASE1_OPEN, PHASE2_MOVES, PHASE2_OPEN};
+use crate::{ALL_MOVES, PHASE1_OPEN, PHASE2_MOVES, PHASE2_OPEN};
 
 // The move of a column of phase 1.
 pub fn phase1_move(j: usize) -> u8
@@ -26,11 +26,7 @@ pub fn phase2_move(j: usize) -> u8
 fn last_layer(last: u8) -> usize
     ensures { result ≡ min (last / 3) 6 }
 {
-    if last < NO_MOVE {
-        (last / 3) as usize
-    } else {
-        6
-    }
+    ((last / 3) as usize).min(6)
 }
 
 // The columns of phase 1 whose moves may follow `last`.

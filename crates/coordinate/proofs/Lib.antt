@@ -1,1 +1,2 @@
-pub mod Answers
+pub mod Sixteen
+pub mod Twelve

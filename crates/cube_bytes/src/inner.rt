@@ -3,21 +3,16 @@ ghost use Rattle.std.specs.Prelude.{◌≡◌, length};
 ghost use Rattle.cubie.specs.Cube.{bytes_of, cube_of};
 
 use cubie::CubieCube;
-use pieces::inner::copy_in;
 
 // The 40 bytes of a cube.
 pub fn put_cube(c: CubieCube, out: &mut [u8])
     requires { length out.old ≡ 40 }
     ensures { out.new ≡ bytes_of c }
 {
-    let cp = c.cp;
-    copy_in(&cp, out, 0);
-    let co = c.co;
-    copy_in(&co, out, 8);
-    let ep = c.ep;
-    copy_in(&ep, out, 16);
-    let eo = c.eo;
-    copy_in(&eo, out, 28);
+    out[0..8].copy_from_slice(&c.cp);
+    out[8..16].copy_from_slice(&c.co);
+    out[16..28].copy_from_slice(&c.ep);
+    out[28..40].copy_from_slice(&c.eo);
 }
 
 // A cube from its 40 bytes.
@@ -29,9 +24,9 @@ pub fn cube_of(s: &[u8]) -> CubieCube
     let mut co = [0u8; 8];
     let mut ep = [0u8; 12];
     let mut eo = [0u8; 12];
-    copy_in(&s[0..8], &mut cp, 0);
-    copy_in(&s[8..16], &mut co, 0);
-    copy_in(&s[16..28], &mut ep, 0);
-    copy_in(&s[28..40], &mut eo, 0);
+    cp.copy_from_slice(&s[0..8]);
+    co.copy_from_slice(&s[8..16]);
+    ep.copy_from_slice(&s[16..28]);
+    eo.copy_from_slice(&s[28..40]);
     CubieCube { cp, co, ep, eo }
 }

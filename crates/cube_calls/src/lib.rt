@@ -1,96 +1,82 @@
-// Cubes in lent memory: product, moves, tests and counts.
+// Cubes in lent memory: product, moves, tests and counts. A refusal leaves what is lent as it was; another length is refused with 10, before
+// all else.
 #![tactic(auto)]
 
-ghost use Rattle.calls.specs.Calls.{Leaves, mul_call, move_call, moves_call, solved_call, solvable_call, counts_call};
+ghost use Rattle.std.specs.Prelude.{◌≡◌};
+ghost use Rattle.cubie.specs.Cube.{refusal_of};
+ghost use Rattle.calls.specs.Calls.{Leaves, mul_call, move_call, moves_call, solved_call, solvable_call, counts_call, four_counts};
+ghost use Rattle.refusal.specs.Refusals.{answered, code};
 
-use cube_bytes::inner::cube_of;
+use calls::inner::{check_len, cube_at};
+use cube_bytes::inner::put_cube;
+use cubie::CubieCube;
+use refusal::Refusal;
 
 // The product of two cubes of 40 bytes each: cp 8, co 8, ep 12, eo 12.
-pub fn mul(a: &[u8], b: &[u8], out: &mut [u8]) -> u8
-    ensures { Leaves (mul_call a.now b.now out.old) result out.new }
+pub fn mul(a: &[u8], b: &[u8], out: &mut [u8]) -> Result<(), Refusal>
+    ensures { Leaves (mul_call a.now b.now out.old) (code result) out.new }
 {
-    if a.len() != 40 {
-        return 10;
-    }
-    if b.len() != 40 {
-        return 10;
-    }
-    if out.len() != 40 {
-        return 10;
-    }
-    calls::inner::leave_cube(cube_of(a).mul(cube_of(b)), out)
+    check_len(out, 40)?;
+    let product = cube_at(a)?.mul(cube_at(b)?)?;
+    put_cube(product, out);
+    Ok(())
 }
 
 // The cube after one move.
-pub fn apply_move(cube: &[u8], m: u8, out: &mut [u8]) -> u8
-    ensures { Leaves (move_call cube.now m out.old) result out.new }
+pub fn apply_move(cube: &[u8], m: u8, out: &mut [u8]) -> Result<(), Refusal>
+    ensures { Leaves (move_call cube.now m out.old) (code result) out.new }
 {
-    if cube.len() != 40 {
-        return 10;
-    }
-    if out.len() != 40 {
-        return 10;
-    }
-    calls::inner::leave_cube(cube_of(cube).apply_move(m), out)
+    check_len(out, 40)?;
+    let after = cube_at(cube)?.apply_move(m)?;
+    put_cube(after, out);
+    Ok(())
 }
 
 // The cube after a list of moves, a byte each.
-pub fn apply_moves(cube: &[u8], moves: &[u8], out: &mut [u8]) -> u8
-    ensures { Leaves (moves_call cube.now moves.now out.old) result out.new }
+pub fn apply_moves(cube: &[u8], moves: &[u8], out: &mut [u8]) -> Result<(), Refusal>
+    ensures { Leaves (moves_call cube.now moves.now out.old) (code result) out.new }
 {
-    if cube.len() != 40 {
-        return 10;
-    }
-    if out.len() != 40 {
-        return 10;
-    }
-    calls::inner::leave_cube(cube_of(cube).apply_moves(moves), out)
+    check_len(out, 40)?;
+    let after = cube_at(cube)?.apply_moves(moves)?;
+    put_cube(after, out);
+    Ok(())
 }
 
 // Whether a cube is solved: one byte, 1 or 0.
-pub fn is_solved(cube: &[u8], out: &mut [u8]) -> u8
-    ensures { Leaves (solved_call cube.now out.old) result out.new }
+pub fn is_solved(cube: &[u8], out: &mut [u8]) -> Result<(), Refusal>
+    ensures { Leaves (solved_call cube.now out.old) (code result) out.new }
 {
-    if cube.len() != 40 {
-        return 10;
-    }
-    if out.len() != 1 {
-        return 10;
-    }
-    calls::inner::leave_answer(cube_of(cube).is_solved(), out)
+    check_len(out, 1)?;
+    out[0] = u8::from(cube_at(cube)?.is_solved()?);
+    Ok(())
 }
 
 // Whether a cube is solvable: one byte, 1 or 0.
-pub fn is_solvable(cube: &[u8], out: &mut [u8]) -> u8
-    ensures { Leaves (solvable_call cube.now out.old) result out.new }
+pub fn is_solvable(cube: &[u8], out: &mut [u8]) -> Result<(), Refusal>
+    ensures { Leaves (solvable_call cube.now out.old) (code result) out.new }
 {
-    if cube.len() != 40 {
-        return 10;
-    }
-    if out.len() != 1 {
-        return 10;
-    }
-    calls::inner::leave_answer(cube_of(cube).is_solvable(), out)
+    check_len(out, 1)?;
+    out[0] = u8::from(cube_at(cube)?.is_solvable()?);
+    Ok(())
+}
+
+fn counts_of(c: CubieCube) -> Result<[u8; 4], Refusal>
+    ensures { result ≡ answered (refusal_of c) (four_counts c) }
+{
+    cubie::inner::check(c)?;
+    Ok([
+        cubie::inner::count_corner_twist(c),
+        cubie::inner::count_edge_twist(c),
+        cubie::inner::count_corner_perm(c),
+        cubie::inner::count_edge_perm(c),
+    ])
 }
 
 // The four counts, a byte each: corner twists, edge flips, corner swaps, edge swaps.
-pub fn counts(cube: &[u8], out: &mut [u8]) -> u8
-    ensures { Leaves (counts_call cube.now out.old) result out.new }
+pub fn counts(cube: &[u8], out: &mut [u8]) -> Result<(), Refusal>
+    ensures { Leaves (counts_call cube.now out.old) (code result) out.new }
 {
-    if cube.len() != 40 {
-        return 10;
-    }
-    if out.len() != 4 {
-        return 10;
-    }
-    let c = cube_of(cube);
-    let refusal = cubie::inner::refusal(c);
-    if refusal != 0 {
-        return refusal;
-    }
-    out[0] = cubie::inner::count_corner_twist(c);
-    out[1] = cubie::inner::count_edge_twist(c);
-    out[2] = cubie::inner::count_corner_perm(c);
-    out[3] = cubie::inner::count_edge_perm(c);
-    0
+    check_len(out, 4)?;
+    out.copy_from_slice(&counts_of(cube_at(cube)?)?);
+    Ok(())
 }

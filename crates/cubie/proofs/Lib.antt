@@ -1,4 +1,3 @@
-pub mod Answers
 pub mod Product
 pub mod Range
 pub mod Solvable

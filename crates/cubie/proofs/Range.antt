@@ -2,7 +2,7 @@
 use mathlib.Core.Path.{◌≡◌, refl}
 use mathlib.Core.Bool.{Bool, true, false, ◌&&◌}
 use mathlib.Core.List.{List, [], ◌∷◌}
-use Prim.Native.Nat.{ℕ, zero, ◌-◌, ◌%◌}
+use Prim.Native.Nat.{ℕ, zero, ◌<◌, ◌-◌, ◌%◌}
 use native.Mathlib.Omega.{arith}
 use lib.ListN.{length}
 use Rattle.base.specs.Lists.{pick, Under, in_range, total}
@@ -32,6 +32,16 @@ pub no-refusal : {c : CubieCube} → InRange c → refusal_of c ≡ 0
 unfolding refusal_of
 no-refusal {c} r =
     rw (under-in_range 8 c.cp r.cp.small, under-in_range 12 c.ep r.ep.small, under-in_range 3 c.co r.co.small, under-in_range 2 c.eo r.eo.small)
+
+pub refusal-small : (c : CubieCube) → refusal_of c < 16
+unfolding refusal_of
+refusal-small c = go (in_range 8 c.cp) (in_range 12 c.ep) (in_range 3 c.co && in_range 2 c.eo)
+  where
+    go : (p q r : Bool) → pick p (pick q (pick r 0 6) 5) 4 < 16
+    go true true true = omega arith
+    go true true false = omega arith
+    go true false r = omega arith
+    go false q r = omega arith
 
 -- what is left of a flip is the flip
 pub flips : (xs : List ℕ) → Under 2 xs → total (λ x. (2 - x) % 2) xs ≡ total (λ x. x) xs

@@ -9,9 +9,10 @@ use native.Mathlib.Omega.{arith}
 use lib.Dec.{eqb, ltb}
 use lib.ListN.{length, get_or}
 use borrow.Author.Tests.{eqb-true, ltb-true}
+use Rattle.std.specs.Cmp.Lexicographic.{pointwise}
 use Rattle.base.specs.Lists.{all_below, Under, same_list, times}
 use Rattle.base.specs.Product.{twisted}
-use Rattle.base.proofs.Tests.{and-true, below_true, same_list-is}
+use Rattle.base.proofs.Tests.{and-true, below_true, same_list-is, eq_same_list}
 use Rattle.cubie.specs.Cube.{refusal_of, InRange, product, solved_cube, quarter_turns, power, move_of, turn, apply_moves, same_cube}
 use Rattle.moves.specs.Moves.{inverse_move}
 use Rattle.cubie.specs.declared.CubieCube.{CubieCube}
@@ -25,6 +26,13 @@ same-is a b e =
     let q = and-true (same_list a.co b.co) _ p.1 in
     let r = and-true (same_list a.ep b.ep) _ q.1 in
     cube-path (same_list-is _ _ p.0) (same_list-is _ _ q.0) (same_list-is _ _ r.0) (same_list-is _ _ r.1)
+
+-- what `==` answers of two cubes
+pub eq_same_cube : (a b : CubieCube)
+    → (pointwise eqb a.cp b.cp && (pointwise eqb a.co b.co && (pointwise eqb a.ep b.ep && pointwise eqb a.eo b.eo))) ≡ same_cube a b
+unfolding same_cube
+eq_same_cube a b =
+    ap₂ ◌&&◌ (eq_same_list a.cp b.cp) (ap₂ ◌&&◌ (eq_same_list a.co b.co) (ap₂ ◌&&◌ (eq_same_list a.ep b.ep) (eq_same_list a.eo b.eo)))
 
 -- ---- the constants, by computed tests
 

@@ -5,15 +5,14 @@ ghost use Rattle.std.specs.Prelude.{◌≡◌};
 ghost use Rattle.cubie.specs.Answers.{mul_answer, move_answer, moves_answer, solved_answer, solvable_answer};
 ghost use Rattle.cubie.specs.Answers.{corner_twist_answer, edge_twist_answer, corner_perm_answer, edge_perm_answer};
 
-use moves::inner::{first, lowest, move_refusal, tell};
-use moves::{Answer, Number, Verdict};
-use pieces::inner::in_range;
+use moves::inner::{check_list, check_move};
+use refusal::{Refusal, lowest};
 
 pub mod inner;
 pub mod quarters;
 
 // Which corner and which edge stands at each place, and how each is twisted or flipped.
-#[derive(Clone, Copy)]
+#[derive(Clone, Copy, Debug, PartialEq, Eq)]
 pub struct CubieCube {
     pub cp: [u8; 8],
     pub co: [u8; 8],
@@ -28,117 +27,76 @@ pub const SOLVED_CUBIE_CUBE: CubieCube = CubieCube {
     eo: [0, 0, 0, 0, 0, 0, 0, 0, 0, 0, 0, 0],
 };
 
-// A cube, or a refusal with the solved cube beside it.
-#[derive(Clone, Copy)]
-pub struct CubeAnswer {
-    pub verdict: Verdict,
-    pub cube: CubieCube,
-}
-
 impl CubieCube {
     // The product, as `Mul` has it: the pieces of `self` at the places that `rhs` names.
-    pub fn mul(self, rhs: CubieCube) -> CubeAnswer
+    pub fn mul(self, rhs: CubieCube) -> Result<CubieCube, Refusal>
         ensures { result ≡ mul_answer self rhs }
     {
-        let refusal = lowest(inner::refusal(self), inner::refusal(rhs));
-        if refusal != 0 {
-            return inner::cube_refused(refusal);
-        }
-        CubeAnswer {
-            verdict: Verdict::Good,
-            cube: inner::mul(self, rhs),
-        }
+        lowest(inner::check(self), inner::check(rhs))?;
+        Ok(inner::mul(self, rhs))
     }
 
-    pub fn apply_move(self, m: u8) -> CubeAnswer
+    pub fn apply_move(self, m: u8) -> Result<CubieCube, Refusal>
         ensures { result ≡ move_answer self m }
     {
-        let refusal = first(inner::refusal(self), move_refusal(m));
-        if refusal != 0 {
-            return inner::cube_refused(refusal);
-        }
-        CubeAnswer {
-            verdict: Verdict::Good,
-            cube: inner::apply_move(self, m),
-        }
+        inner::check(self).and(check_move(m))?;
+        Ok(inner::apply_move(self, m))
     }
 
     // The moves of a lent list, one after the other.
-    pub fn apply_moves(self, moves: &[u8]) -> CubeAnswer
+    pub fn apply_moves(self, moves: &[u8]) -> Result<CubieCube, Refusal>
         ensures { result ≡ moves_answer self moves.now }
     {
-        let refusal = inner::refusal(self);
-        if refusal != 0 {
-            return inner::cube_refused(refusal);
-        }
-        if !in_range(moves, 18) {
-            return inner::cube_refused(7);
-        }
-        CubeAnswer {
-            verdict: Verdict::Good,
-            cube: inner::apply_moves(self, moves),
-        }
+        inner::check(self)?;
+        check_list(moves)?;
+        Ok(inner::apply_moves(self, moves))
     }
 
     // Whether each piece is at its place, and none turned.
-    pub fn is_solved(self) -> Answer
+    pub fn is_solved(self) -> Result<bool, Refusal>
         ensures { result ≡ solved_answer self }
     {
-        tell(inner::refusal(self), inner::is_solved(self))
+        inner::check(self)?;
+        Ok(inner::is_solved(self))
     }
 
     // The twists that the corners still need.
-    pub fn count_corner_twist(self) -> Number
+    pub fn count_corner_twist(self) -> Result<u8, Refusal>
         ensures { result ≡ corner_twist_answer self }
     {
-        let refusal = inner::refusal(self);
-        if refusal != 0 {
-            return Number::Refused(refusal);
-        }
-        Number::Is(inner::count_corner_twist(self))
+        inner::check(self)?;
+        Ok(inner::count_corner_twist(self))
     }
 
     // The flips that the edges still need.
-    pub fn count_edge_twist(self) -> Number
+    pub fn count_edge_twist(self) -> Result<u8, Refusal>
         ensures { result ≡ edge_twist_answer self }
     {
-        let refusal = inner::refusal(self);
-        if refusal != 0 {
-            return Number::Refused(refusal);
-        }
-        Number::Is(inner::count_edge_twist(self))
+        inner::check(self)?;
+        Ok(inner::count_edge_twist(self))
     }
 
     // The swaps that sort the corners.
-    pub fn count_corner_perm(self) -> Number
+    pub fn count_corner_perm(self) -> Result<u8, Refusal>
         ensures { result ≡ corner_perm_answer self }
     {
-        let refusal = inner::refusal(self);
-        if refusal != 0 {
-            return Number::Refused(refusal);
-        }
-        Number::Is(inner::count_corner_perm(self))
+        inner::check(self)?;
+        Ok(inner::count_corner_perm(self))
     }
 
     // The swaps that sort the edges.
-    pub fn count_edge_perm(self) -> Number
+    pub fn count_edge_perm(self) -> Result<u8, Refusal>
         ensures { result ≡ edge_perm_answer self }
     {
-        let refusal = inner::refusal(self);
-        if refusal != 0 {
-            return Number::Refused(refusal);
-        }
-        Number::Is(inner::count_edge_perm(self))
+        inner::check(self)?;
+        Ok(inner::count_edge_perm(self))
     }
 
     // No piece twice, equal parity, twists 0 modulo 3, flips 0 modulo 2.
-    pub fn is_solvable(self) -> Answer
+    pub fn is_solvable(self) -> Result<bool, Refusal>
         ensures { result ≡ solvable_answer self }
     {
-        let refusal = inner::refusal(self);
-        if refusal != 0 {
-            return Answer::Refused(refusal);
-        }
-        tell(refusal, inner::is_solvable(self))
+        inner::check(self)?;
+        Ok(inner::is_solvable(self))
     }
 }

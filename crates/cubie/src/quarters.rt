@@ -42,3 +42,6 @@ pub const B_MOVE: CubieCube = CubieCube {
     ep: [4, 10, 2, 3, 1, 5, 6, 7, 8, 9, 0, 11],
     eo: [1, 1, 0, 0, 1, 0, 0, 0, 0, 0, 1, 0],
 };
+
+// In the order of the layers, U D R L F B.
+pub const QUARTERS: [CubieCube; 6] = [U_MOVE, D_MOVE, R_MOVE, L_MOVE, F_MOVE, B_MOVE];

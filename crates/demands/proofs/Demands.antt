@@ -18,11 +18,13 @@ use Rattle.stickers.specs.Reader.{read_strict}
 use Rattle.stickers.specs.Stickers.{corner_facelet, edge_facelet, corner_color, edge_color, solved_face}
 use Rattle.stickers.proofs.Readers.{accepted, strict-exactly}
 use Rattle.table_check.specs.Check.{Checks}
-use Rattle.table_check.specs.declared.Checked.TheVariants as checked
+use Rattle.table_check.specs.declared.CheckError.TheVariants as check
+use Rattle.std.proofs.Common.{Ok, Err}
 use Rattle.table_check.proofs.Ten.{passes-exactly}
 use Rattle.phase2_steps.specs.Rules.{Ans, solved, nothing, spent, refused}
 use Rattle.phase2_steps.specs.Second.{turns2, fars2}
 use Rattle.phase1_steps.specs.First.{turns1, fars1, coords1}
+use Rattle.refusal.specs.declared.Refusal.{Refusal}
 use Rattle.search.specs.Solve.{solve_of}
 use Rattle.search.specs.declared.Found.TheVariants as found
 use Rattle.search.specs.declared.Solution.{Solution}
@@ -88,7 +90,7 @@ module _ (cube : CubieCube) (limit budget : ℕ) (moves prunes : List ℕ) where
         go (done refused u) s = absurd s
 
     -- so neither 11 nor 12 comes up
-    pub no-refusal : (n : ℕ) → r.found ≡ found.Refused n → ⊥
+    pub no-refusal : (n : Refusal) → r.found ≡ found.Refused n → ⊥
     no-refusal n h = ⊎_elim (λ s. refused-solved n (sym h ∙ s)) (λ s. refused-nothing n (sym h ∙ s)) solved-or-none
 
     -- where a list of fewer moves than the limit solves the cube, one is found
@@ -117,11 +119,11 @@ module _ (cube : CubieCube) (limit budget : ℕ) (moves prunes : List ℕ) where
     closing h = (((strict-exactly s cube).0 read).same, ap picture (same-is _ _ (solved-solves h).0) ∙ picture-home)
 
     -- with tables that pass the check, and unless spent: such an answer, or none and no list of fewer moves would do
-    pub closing-either : Checks moves prunes checked.Good → limit ≤ 31 → (r.found ≡ found.Spent → ⊥)
+    pub closing-either : Checks moves prunes (Ok tt) → limit ≤ 31 → (r.found ≡ found.Spent → ⊥)
         → ((r.found ≡ found.Solved) × (picture (apply_moves cube (list_of r)) ≡ solved_face)) ⊎ ((r.found ≡ found.Nothing) × NoneShorter cube limit)
     closing-either c l paid =
         let p = (strict-exactly s cube).0 read in
-        let w : Within cube limit moves prunes = record { range = p.range; solvable = p.solvable; most = l; tables = (passes-exactly moves prunes checked.Good c).0 refl } in
+        let w : Within cube limit moves prunes = record { range = p.range; solvable = p.solvable; most = l; tables = (passes-exactly moves prunes (Ok tt) c).0 refl } in
         ⊎_elim (λ h. inl (h, (closing h).1)) (λ h. inr (h, (none-exactly w paid).0 h)) (solved-or-none w paid)
 
 -- a higher limit turns no solved into none

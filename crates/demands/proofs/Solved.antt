@@ -20,7 +20,12 @@ use Rattle.cubie.proofs.Range.{no-refusal}
 use Rattle.phase2_steps.specs.Rules.{Ans, solved, nothing, spent, refused}
 use Rattle.phase2_steps.specs.Paths.{padded}
 use Rattle.pruning_table.specs.Check.{Blocks}
-use Rattle.search.specs.Solve.{no_lists, answer_of, solves, checked, searched, search_refusal, solve_of}
+use Rattle.search.specs.Solve.{no_lists, answer_of, solves, checked, searched, before_search, solve_of}
+use Rattle.search.proofs.Answered.{of-the-cube, solve-searches}
+use Rattle.cubie.specs.Answers.{solvable_refusal}
+use Rattle.refusal.specs.declared.Refusal.{Refusal}
+use Rattle.refusal.specs.declared.Refusal.TheVariants as refusal
+use Rattle.refusal.specs.Refusals.{named}
 use Rattle.search.specs.declared.Found.TheVariants as found
 use Rattle.search.specs.declared.Solution.{Solution}
 use Rattle.demands.specs.Plain.{SaysAs, list_of}
@@ -50,22 +55,19 @@ pick_true x y e = rw e
 module _ (cube : CubieCube) (limit budget : ℕ) (moves prunes : List ℕ) where
   -- it is searched where nothing is refused
   pub is-searched : InRange cube → solvable cube ≡ true → limit ≤ 31 → Blocks moves prunes → solve_of cube limit budget moves prunes ≡ searched cube limit budget moves prunes
-  unfolding solve_of search_refusal
+  unfolding solvable_refusal
   is-searched r s l b =
-      pick_true _ _ (le-leb limit 31 l)
-      ∙ pick_true _ _ (both_true (eq-eqb (length moves) 891780 b.six) (eq-eqb (length prunes) 4031685 b.four))
-      ∙ pick_true _ _ (eq-eqb (search_refusal cube) 0 (pick_true _ _ (eq-eqb (refusal_of cube) 0 (no-refusal r)) ∙ pick_true _ _ s))
+      solve-searches cube limit budget moves prunes
+      (of-the-cube cube limit moves prunes l b.six b.four ∙ pick_true _ _ (eq-eqb (refusal_of cube) 0 (no-refusal r)) ∙ pick_true _ _ s)
 
   -- and only there is it solved
   pub solved-searched : (solve_of cube limit budget moves prunes).found ≡ found.Solved → solve_of cube limit budget moves prunes ≡ searched cube limit budget moves prunes
   unfolding solve_of
-  solved-searched h = go (leb limit 31) (eqb (length moves) 891780 && eqb (length prunes) 4031685) (eqb (search_refusal cube) 0) (searched cube limit budget moves prunes) h
+  solved-searched h = go (eqb (before_search cube limit moves prunes) 0) (searched cube limit budget moves prunes) (named (before_search cube limit moves prunes)) h
     where
-      go : (p q r : Bool) (s : Solution) → (pick p (pick q (pick r s (no_lists (found.Refused (search_refusal cube)) 0)) (no_lists (found.Refused 10) 0)) (no_lists (found.Refused 9) 0)).found ≡ found.Solved → pick p (pick q (pick r s (no_lists (found.Refused (search_refusal cube)) 0)) (no_lists (found.Refused 10) 0)) (no_lists (found.Refused 9) 0) ≡ s
-      go true true true s e = refl
-      go true true false s e = let z : found.Refused (search_refusal cube) ≡ found.Solved = e in cc
-      go true false r s e = let z : found.Refused 10 ≡ found.Solved = e in cc
-      go false q r s e = let z : found.Refused 9 ≡ found.Solved = e in cc
+      go : (p : Bool) (s : Solution) (q : Refusal) → (pick p s (no_lists (found.Refused q) 0)).found ≡ found.Solved → pick p s (no_lists (found.Refused q) 0) ≡ s
+      go true s q e = refl
+      go false s q e = let z : found.Refused q ≡ found.Solved = e in cc
 
 -- ---- the cases of an answer differ
 
@@ -75,10 +77,10 @@ nothing-solved e = let z : ◌≡◌ {A = ℕ} 0 1 = cc in omega arith
 spent-solved : found.Spent ≡ found.Solved → ⊥
 spent-solved e = let z : ◌≡◌ {A = ℕ} 0 1 = cc in omega arith
 
-pub refused-solved : (n : ℕ) → found.Refused n ≡ found.Solved → ⊥
+pub refused-solved : (n : Refusal) → found.Refused n ≡ found.Solved → ⊥
 refused-solved n e = let z : ◌≡◌ {A = ℕ} 0 1 = cc in omega arith
 
-pub refused-nothing : (n : ℕ) → found.Refused n ≡ found.Nothing → ⊥
+pub refused-nothing : (n : Refusal) → found.Refused n ≡ found.Nothing → ⊥
 refused-nothing n e = let z : ◌≡◌ {A = ℕ} 0 1 = cc in omega arith
 
 -- ---- the last check
@@ -95,15 +97,15 @@ module _ (cube : CubieCube) (limit budget : ℕ) where
   checked-solves (still s) h e = absurd (nothing-solved e)
   checked-solves (done nothing s) h e = absurd (nothing-solved e)
   checked-solves (done spent s) h e = absurd (spent-solved e)
-  checked-solves (done refused s) h e = absurd (refused-solved 11 e)
+  checked-solves (done refused s) h e = absurd (refused-solved refusal.Entry e)
   checked-solves (done (solved l) s) (says h) e = go (is_home (apply_moves cube (list_of r))) refl e
     where
       r : Solution
       r = answer_of budget (done (solved l) s)
 
-      go : (b : Bool) → is_home (apply_moves cube (list_of r)) ≡ b → (pick b r (no_lists (found.Refused 12) r.count)).found ≡ found.Solved → Solves cube limit (pick b r (no_lists (found.Refused 12) r.count))
+      go : (b : Bool) → is_home (apply_moves cube (list_of r)) ≡ b → (pick b r (no_lists (found.Refused refusal.LastCheck) r.count)).found ≡ found.Solved → Solves cube limit (pick b r (no_lists (found.Refused refusal.LastCheck) r.count))
       go true e f = record { home = e; short = subst (Short limit) (sym (lists-are budget s l)) h }
-      go false e f = absurd (refused-solved 12 f)
+      go false e f = absurd (refused-solved refusal.LastCheck f)
 
   -- a search that agrees with one whose lists lead home tells the same
   pub says-as : {q : Res (Ans (List ℕ × List ℕ)) ℕ} {p : Res (Ans (List ℕ × List ℕ)) (Unit {0})} → Agree Lost q p → Says (Means (Unit {0}) ⊥ (Both limit cube)) p → ((checked cube (answer_of budget q)).found ≡ found.Spent → ⊥) → SaysAs (checked cube (answer_of budget q)) p
@@ -117,7 +119,7 @@ module _ (cube : CubieCube) (limit budget : ℕ) where
       r : Solution
       r = answer_of budget (done (solved l) s)
 
-      go : (b : Bool) → b ≡ true → SaysAs (pick b r (no_lists (found.Refused 12) r.count)) (done (solved l) t)
+      go : (b : Bool) → b ≡ true → SaysAs (pick b r (no_lists (found.Refused refusal.LastCheck) r.count)) (done (solved l) t)
       go true e = (refl, take-padded l.0, take-padded l.1)
       go false e = let z : ◌≡◌ {A = ℕ} 0 1 = cc in absurd (omega arith)
   says-as (lost {a = spent} h) k n = absurd (n refl)

@@ -19,7 +19,9 @@ use Rattle.pruning_table.specs.Check.{Blocks}
 use Rattle.phase2_steps.specs.Rules.{ends_of, rules}
 use Rattle.phase2_steps.specs.Second.{finish2}
 use Rattle.phase1_steps.specs.First.{under}
-use Rattle.search.specs.Solve.{no_lists, searched, search_refusal, solve_of}
+use Rattle.search.specs.Solve.{no_lists, searched, before_search, solve_of}
+use Rattle.refusal.specs.declared.Refusal.{Refusal}
+use Rattle.refusal.specs.Refusals.{named}
 use Rattle.search.specs.declared.Found.TheVariants as found
 use Rattle.search.specs.declared.Solution.{Solution}
 use Rattle.demands.specs.Tally.{tally_finish1, tally_solve, tally_of}
@@ -38,13 +40,11 @@ module _ (cube : CubieCube) (limit budget : ℕ) (moves prunes : List ℕ) where
   -- only what was searched is spent
   spent-searched : r.found ≡ found.Spent → r ≡ searched cube limit budget moves prunes
   unfolding solve_of
-  spent-searched h = go (leb limit 31) (eqb (length moves) 891780 && eqb (length prunes) 4031685) (eqb (search_refusal cube) 0) (searched cube limit budget moves prunes) h
+  spent-searched h = go (eqb (before_search cube limit moves prunes) 0) (searched cube limit budget moves prunes) (named (before_search cube limit moves prunes)) h
     where
-      go : (p q r : Bool) (s : Solution) → (pick p (pick q (pick r s (no_lists (found.Refused (search_refusal cube)) 0)) (no_lists (found.Refused 10) 0)) (no_lists (found.Refused 9) 0)).found ≡ found.Spent → pick p (pick q (pick r s (no_lists (found.Refused (search_refusal cube)) 0)) (no_lists (found.Refused 10) 0)) (no_lists (found.Refused 9) 0) ≡ s
-      go true true true s e = refl
-      go true true false s e = absurd (refused-spent (search_refusal cube) e)
-      go true false r s e = absurd (refused-spent 10 e)
-      go false q r s e = absurd (refused-spent 9 e)
+      go : (p : Bool) (s : Solution) (q : Refusal) → (pick p s (no_lists (found.Refused q) 0)).found ≡ found.Spent → pick p s (no_lists (found.Refused q) 0) ≡ s
+      go true s q e = refl
+      go false s q e = absurd (refused-spent q e)
 
   is-short : r.found ≡ found.Spent → Short budget tally r
   is-short h =

@@ -17,6 +17,8 @@ use Rattle.phase2_steps.specs.Rules.{Ans, solved, nothing, spent, refused, Shape
 use Rattle.phase2_steps.specs.Paths.{padded}
 use Rattle.phase2_steps.specs.Second.{turns2, fars2, coords2, finish2, run2}
 use Rattle.phase1_steps.specs.First.{turns1, fars1, coords1, under, full_of, finish1, run1, table_solve}
+use Rattle.refusal.specs.declared.Refusal.{Refusal}
+use Rattle.refusal.specs.declared.Refusal.TheVariants as refusal
 use Rattle.search.specs.Solve.{no_lists, answer_of, solves, checked, searched}
 use Rattle.search.specs.declared.Found.TheVariants as found
 use Rattle.search.specs.declared.Solution.{Solution}
@@ -95,7 +97,7 @@ nothing-spent e = let z : ◌≡◌ {A = ℕ} 0 1 = cc in omega arith
 solved-spent : found.Solved ≡ found.Spent → ⊥
 solved-spent e = let z : ◌≡◌ {A = ℕ} 0 1 = cc in omega arith
 
-pub refused-spent : (n : ℕ) → found.Refused n ≡ found.Spent → ⊥
+pub refused-spent : (n : Refusal) → found.Refused n ≡ found.Spent → ⊥
 refused-spent n e = let z : ◌≡◌ {A = ℕ} 0 1 = cc in omega arith
 
 -- an answer of a search with this budget, by what was counted: not spent, and the count is what was counted; or spent, and the count is the budget
@@ -114,15 +116,15 @@ module _ (cube : CubieCube) (budget : ℕ) where
   told (open_both e) = inl (record { other = nothing-spent; count = omega arith; enough = omega arith })
   told (done_both {a = nothing} o e) = inl (record { other = nothing-spent; count = omega arith; enough = omega arith })
   told (done_both {a = spent} o e) = absurd o
-  told (done_both {a = refused} o e) = inl (record { other = refused-spent 11; count = omega arith; enough = omega arith })
+  told (done_both {a = refused} o e) = inl (record { other = refused-spent refusal.Entry; count = omega arith; enough = omega arith })
   told (done_both {a = solved l} {s = s} {c = c} o e) = inl (go (solves cube _))
     where
       r : Solution
       r = answer_of budget (done (solved l) s)
 
-      go : (b : Bool) → Paid budget c (pick b r (no_lists (found.Refused 12) r.count))
+      go : (b : Bool) → Paid budget c (pick b r (no_lists (found.Refused refusal.LastCheck) r.count))
       go true = record { other = solved-spent; count = omega arith; enough = omega arith }
-      go false = record { other = refused-spent 12; count = omega arith; enough = omega arith }
+      go false = record { other = refused-spent refusal.LastCheck; count = omega arith; enough = omega arith }
   told (short l) = inr (record { is = ap (no_lists found.Spent) (omega arith); more = l })
 
 -- a budget that is enough leaves no trace in the answer
@@ -131,7 +133,7 @@ unfolding left_of with_left answer_of
 answer-paid n (still c) h = ap (no_lists found.Nothing) (omega arith)
 answer-paid n (done nothing c) h = ap (no_lists found.Nothing) (omega arith)
 answer-paid n (done spent c) h = ap (no_lists found.Spent) (omega arith)
-answer-paid n (done refused c) h = ap (no_lists (found.Refused 11)) (omega arith)
+answer-paid n (done refused c) h = ap (no_lists (found.Refused refusal.Entry)) (omega arith)
 answer-paid n (done (solved l) c) h = ap (λ (k : ℕ). record { found = found.Solved; count = k; n1 = length l.0; phase1 = padded l.0; n2 = length l.1; phase2 = padded l.1 }) (omega arith)
 
 module _ (cube : CubieCube) (limit : ℕ) (moves prunes : List ℕ) where

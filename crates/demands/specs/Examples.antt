@@ -1,6 +1,8 @@
 -- The paper's starred examples as one table: what is asked, and what the paper says. Assumes nothing: these are definitions.
-use Rattle.std.specs.Prelude.{ℕ, Bool, true, ◌&&◌, List, [], ◌∷◌, ◌++◌, replicate, set}
+use Rattle.std.specs.Prelude.{ℕ, Bool, true, ◌&&◌, List, [], ◌∷◌, ◌++◌, replicate, set, Result}
 use Rattle.base.specs.Lists.{same_list, times}
+use Rattle.refusal.specs.declared.Refusal.{Refusal}
+use Rattle.refusal.specs.Refusals.{value_or}
 use Rattle.cubie.specs.Cube.{bytes_of, solved_cube, turn, apply_moves}
 use Rattle.cubie.specs.declared.CubieCube.{CubieCube}
 use Rattle.stickers.specs.Picture.{picture}
@@ -26,12 +28,16 @@ phase1_of c = coordinate co c ∷ coordinate eo c ∷ coordinate e_combo c ∷ [
 abbrev phase2_of : CubieCube → List ℕ
 phase2_of c = coordinate cp c ∷ coordinate ud_ep c ∷ coordinate e_ep c ∷ []
 
+-- the cube that a reader gives, and the solved one beside a refusal
+abbrev cube_in : Result CubieCube Refusal → CubieCube
+cube_in = value_or solved_cube
+
 -- what a reader answers: the refusal's number, 0 where there is none, and the cube's bytes
 abbrev plainly : List ℕ → List ℕ
-plainly s = plain_refusal s ∷ bytes_of (read_plain s).cube
+plainly s = plain_refusal s ∷ bytes_of (cube_in (read_plain s))
 
 abbrev strictly : List ℕ → List ℕ
-strictly s = strict_refusal s ∷ bytes_of (read_strict s).cube
+strictly s = strict_refusal s ∷ bytes_of (cube_in (read_strict s))
 
 -- with the solved cube beside it
 abbrev number : ℕ → List ℕ
@@ -41,7 +47,7 @@ number n = n ∷ bytes_of solved_cube
 unfoldable pub examples : List Example
 examples =
     -- solved picture: all coordinates 0
-    is (seven_of (read_strict solved_face).cube) (replicate 7 0)
+    is (seven_of (cube_in (read_strict solved_face))) (replicate 7 0)
     -- and no refusal
     ∷ is (strict_refusal solved_face ∷ []) (0 ∷ [])
     -- after U: cp 15120, ud_ep 15120, e_ep 0

@@ -1,75 +1,47 @@
 // The stickers of a cube: kewb's src/cube/facelet.rs, and the reader of cubie.rs.
 #![tactic(auto)]
 
-ghost use Rattle.std.specs.Prelude.{◌≡◌};
-ghost use Rattle.stickers.specs.Picture.{face_refusal, picture_answer};
-ghost use Rattle.stickers.specs.Reader.{read_plain, read_strict};
+ghost use Rattle.std.specs.Prelude.{◌≡◌, IfOk};
+ghost use Rattle.stickers.specs.Picture.{picture_answer};
+ghost use Rattle.stickers.specs.Reader.{cube_read, plain_refusal, read_plain, read_strict};
 
-use cubie::{CubeAnswer, CubieCube};
-use moves::Verdict;
-use stickers::FaceAnswer;
-
-fn face_refused(refusal: u8) -> FaceAnswer
-    ensures { result ≡ face_refusal refusal }
-{
-    FaceAnswer {
-        verdict: Verdict::Refused(refusal),
-        face: [0; 54],
-    }
-}
+use cubie::CubieCube;
+use refusal::Refusal;
 
 // The picture of a cube: 4, 5, 6 by range, and 6 for one that isn't solvable.
-pub fn picture(c: CubieCube) -> FaceAnswer
+pub fn picture(c: CubieCube) -> Result<[u8; 54], Refusal>
     ensures { result ≡ picture_answer c }
 {
-    let refusal = cubie::inner::refusal(c);
-    if refusal != 0 {
-        return face_refused(refusal);
-    }
-    if !cubie::inner::is_solvable(c) {
-        return face_refused(6);
-    }
-    FaceAnswer {
-        verdict: Verdict::Good,
-        face: stickers::inner::picture_of(c),
-    }
+    cubie::inner::check_solvable(c)?;
+    Ok(stickers::inner::picture_of(c))
 }
 
 // Reads as kewb does: what matches no piece is taken for the solved one, and centres aren't read.
-pub fn read_plain(s: &[u8]) -> CubeAnswer
-    ensures { result ≡ read_plain s.now }
+pub fn read_plain(s: &[u8]) -> Result<CubieCube, Refusal>
+    ensures value { result ≡ read_plain s.now }
+    ensures read { IfOk result (λ c. (plain_refusal s.now ≡ 0) × (c ≡ cube_read s.now)) }
 {
     if s.len() != 54 {
-        return cubie::inner::cube_refused(1);
+        return Err(Refusal::Stickers);
     }
     if !stickers::inner::all_colors(s) {
-        return cubie::inner::cube_refused(2);
+        return Err(Refusal::Letter);
     }
     let cube = reading::inner::cube_read(s);
     if !cubie::inner::is_solvable(cube) {
-        return cubie::inner::cube_refused(3);
+        return Err(Refusal::Unsolvable);
     }
-    CubeAnswer {
-        verdict: Verdict::Good,
-        cube: cube,
-    }
+    Ok(cube)
 }
 
 // Reads plainly, renders what was read, and compares all 54 stickers.
-pub fn read_strict(s: &[u8]) -> CubeAnswer
+pub fn read_strict(s: &[u8]) -> Result<CubieCube, Refusal>
     ensures { result ≡ read_strict s.now }
 {
-    let plain = read_plain(s);
-    let verdict = plain.verdict;
-    match verdict {
-        Verdict::Refused(_) => plain,
-        Verdict::Good => {
-            let cube = plain.cube;
-            let face = stickers::inner::picture_of(cube);
-            if pieces::inner::same_bytes(&face, s) {
-                return plain;
-            }
-            cubie::inner::cube_refused(15)
-        }
+    let cube = read_plain(s)?;
+    if stickers::inner::picture_of(cube).as_slice() == s {
+        Ok(cube)
+    } else {
+        Err(Refusal::Picture)
     }
 }

@@ -3,16 +3,10 @@
 
 use std::io;
 
-// One byte more than is taken, so that a longer input shows.
-fn room() -> [u8; 1025] {
-    [0; 1025]
-}
-
 fn main(rt: HostRuntime) -> io::Result<()> {
-    let mut input = room();
+    // one byte more than is taken, so that a longer input shows
+    let mut input = [0; 1025];
     let n = stream::read_full(&mut rt.reader(), &mut input)?;
     let said = judgement::judge(&input[..n]);
-    let text = said.text;
-    let len = said.len;
-    rt.write_all(&text[..len])
+    rt.write_all(&said.text[..said.len])
 }

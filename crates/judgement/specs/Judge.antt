@@ -1,6 +1,8 @@
 -- Do these moves solve this cube? The bytes that are printed, as a function of the bytes that were read. Assumes nothing: these are definitions.
-use Rattle.std.specs.Prelude.{Bool, false, List, [], ◌∷◌, ◌++◌, ℕ, ◌-◌, ◌<◌, eqb, leb, length, get_or, take, replicate}
+use Rattle.std.specs.Prelude.{Bool, List, [], ◌∷◌, ◌++◌, ℕ, ◌-◌, ◌<◌, eqb, leb, length, get_or, take, replicate, Result, Ok, Err}
 use Rattle.base.specs.Lists.{pick, in_range}
+use Rattle.refusal.specs.declared.Refusal.{Refusal}
+use Rattle.refusal.specs.Refusals.{number, named, answered}
 use Rattle.cubie.specs.Cube.{apply_moves, is_home}
 use Rattle.cubie.specs.declared.CubieCube.{CubieCube}
 use Rattle.stickers.specs.Reader.{cube_read, strict_refusal}
@@ -23,32 +25,27 @@ move_line s = closed (after_line s)
 
 -- ---- the score
 
--- a refusal by its number
-abbrev pub refused_score : ℕ → Score
-refused_score n = record { refusal = n; moves = 0; strokes = 0; solved = false }
-
 -- "whether the moves solve the cube read"
 abbrev pub score_of : CubieCube → List ℕ → Score
-score_of c ms = record { refusal = 0; moves = length ms; strokes = strokes_of ms; solved = is_home (apply_moves c ms) }
+score_of c ms = record { moves = length ms; strokes = strokes_of ms; solved = is_home (apply_moves c ms) }
 
 -- text that isn't a move list is 7; "a list above 255 moves is 10"
 unfoldable pub text_refusal : List ℕ → ℕ
 text_refusal t = pick (in_range 18 (parse t)) (pick (leb (length (parse t)) 255) 0 10) 7
 
-unfoldable pub score_moves : CubieCube → List ℕ → Score
-score_moves c t = pick (eqb (text_refusal t) 0) (score_of c (parse t)) (refused_score (text_refusal t))
+unfoldable pub score_moves : CubieCube → List ℕ → Result Score Refusal
+score_moves c t = answered (text_refusal t) (score_of c (parse t))
 
 -- "The stickers' refusal comes first"
-unfoldable pub score_lines : List ℕ → List ℕ → Score
-score_lines stickers t = pick (eqb (strict_refusal stickers) 0) (score_moves (cube_read stickers) t) (refused_score (strict_refusal stickers))
+unfoldable pub score_lines : List ℕ → List ℕ → Result Score Refusal
+score_lines stickers t = pick (eqb (strict_refusal stickers) 0) (score_moves (cube_read stickers) t) (Err (named (strict_refusal stickers)))
 
 -- "standard input holds a sticker line, then a move line"; "Input above 1,024 bytes is 10 before all else"
-unfoldable pub scored : List ℕ → Score
-scored s = pick (leb (length s) 1024) (score_lines (first_line s) (move_line s)) (refused_score 10)
+unfoldable pub scored : List ℕ → Result Score Refusal
+scored s = pick (leb (length s) 1024) (score_lines (first_line s) (move_line s)) (Err (named 10))
 
 -- no number of the score has more than three digits
 pub record Short (k : Score) : Type 0 where
-  pub refusal : k.refusal < 1000
   pub moves : k.moves < 1000
   pub strokes : k.strokes < 1000
 
@@ -59,9 +56,9 @@ unfoldable pub solved_line : Bool → List ℕ
 solved_line b = pick b (115 ∷ 111 ∷ 108 ∷ 118 ∷ 101 ∷ 100 ∷ 32 ∷ 121 ∷ 101 ∷ 115 ∷ 10 ∷ []) (115 ∷ 111 ∷ 108 ∷ 118 ∷ 101 ∷ 100 ∷ 32 ∷ 110 ∷ 111 ∷ 10 ∷ [])
 
 -- "`moves N`, `strokes N`, `solved yes` or `solved no`, or only `refused N`"
-unfoldable pub score_text : Score → List ℕ
-score_text k =
-    pick (eqb k.refusal 0) (line moves_word k.moves ++ (line strokes_word k.strokes ++ solved_line k.solved)) (line refused_word k.refusal)
+unfoldable pub score_text : Result Score Refusal → List ℕ
+score_text (Ok k) = line moves_word k.moves ++ (line strokes_word k.strokes ++ solved_line k.solved)
+score_text (Err r) = line refused_word (number r)
 
 -- a text in the first of 64 bytes, 0 after it, and its length
 abbrev pub printed_as : List ℕ → Printed

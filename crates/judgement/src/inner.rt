@@ -1,33 +1,25 @@
 // What the judgement is made of: the score, and its text.
-ghost use Rattle.std.specs.Prelude.{◌≡◌, ◌+◌, ◌≤◌, length, take};
+ghost use Rattle.std.specs.Prelude.{◌≡◌, ◌+◌, ◌≤◌, length, take, IfOk};
 ghost use Rattle.base.specs.Lists.{Under};
 ghost use Rattle.cubie.specs.Cube.{InRange};
 ghost use Rattle.words.specs.Answers.{over};
-ghost use Rattle.judgement.specs.Judge.{closed, refused_score, score_of, score_moves, scored, Short, solved_line, score_text, printed_as};
+ghost use Rattle.judgement.specs.Judge.{closed, score_of, score_moves, scored, Short, solved_line, score_text, printed_as};
 
 use crate::{Printed, Score};
 use cubie::CubieCube;
+use lines::inner::{put_bytes, put_line};
 use lines::{MOVES, REFUSED, STROKES};
-use moves::Verdict;
-use words::Parsed;
+use refusal::Refusal;
 
 // The two lines of the answer.
 const SOLVED_YES: [u8; 11] = *b"solved yes\n";
 
 const SOLVED_NO: [u8; 10] = *b"solved no\n";
 
-// ---- the score
+// What is read has at most so many bytes.
+const MAX_INPUT: usize = 1024;
 
-fn refused(n: u8) -> Score
-    ensures { result ≡ refused_score n }
-{
-    Score {
-        refusal: n,
-        moves: 0,
-        strokes: 0,
-        solved: false,
-    }
-}
+// ---- the score
 
 // What a list of moves does to a cube.
 fn score_list(cube: CubieCube, moves: &[u8]) -> Score
@@ -36,7 +28,6 @@ fn score_list(cube: CubieCube, moves: &[u8]) -> Score
 {
     let after = cubie::inner::apply_moves(cube, moves);
     Score {
-        refusal: 0,
         moves: moves.len(),
         strokes: scramble::strokes(moves),
         solved: cubie::inner::is_solved(after),
@@ -44,16 +35,13 @@ fn score_list(cube: CubieCube, moves: &[u8]) -> Score
 }
 
 // What a move text does to a cube.
-fn score_moves(cube: CubieCube, text: &[u8]) -> Score
+fn score_moves(cube: CubieCube, text: &[u8]) -> Result<Score, Refusal>
     requires { InRange cube }
     ensures { result ≡ score_moves cube text.now }
 {
     let mut moves = [0u8; 255];
-    let parsed = scramble::scramble_from_str(text, &mut moves);
-    match parsed {
-        Parsed::Refused(n) => refused(n),
-        Parsed::Moves(n) => score_list(cube, &moves[..n]),
-    }
+    let n = scramble::scramble_from_str(text, &mut moves)?;
+    Ok(score_list(cube, &moves[..n]))
 }
 
 // Where a text ends without its closing LF.
@@ -67,8 +55,8 @@ fn closed_end(text: &[u8]) -> usize
     if text[n - 1] == b'\n' { n - 1 } else { n }
 }
 
-// The score of a sticker line that ends at `end` and of the moves after it.
-fn score_text(cube: CubieCube, text: &[u8]) -> Score
+// The score of the moves after a sticker line.
+fn score_text(cube: CubieCube, text: &[u8]) -> Result<Score, Refusal>
     requires { InRange cube }
     ensures { result ≡ score_moves cube (closed text.now) }
 {
@@ -77,23 +65,16 @@ fn score_text(cube: CubieCube, text: &[u8]) -> Score
 }
 
 // The score of what was read.
-pub fn score(input: &[u8]) -> Score
+pub fn score(input: &[u8]) -> Result<Score, Refusal>
     ensures { result ≡ scored input.now }
 {
-    if input.len() > 1024 {
-        return refused(10);
+    if input.len() > MAX_INPUT {
+        return Err(Refusal::Length);
     }
     let end = lines::inner::find(input, b'\n');
-    let read = facelet::read_strict(&input[..end]);
-    let verdict = read.verdict;
-    match verdict {
-        Verdict::Refused(n) => refused(n),
-        Verdict::Good => {
-            let cube = read.cube;
-            let start = lines::inner::text_start(input, end);
-            score_text(cube, &input[start..])
-        }
-    }
+    let cube = facelet::read_strict(&input[..end])?;
+    let start = lines::inner::text_start(input, end);
+    score_text(cube, &input[start..])
 }
 
 // ---- its text
@@ -105,33 +86,31 @@ fn put_solved(solved: bool, out: &mut [u8], at: usize) -> usize
     ensures out_after { out.new ≡ over out.old at (solved_line solved) }
 {
     if solved {
-        let yes = SOLVED_YES;
-        return lines::inner::put_bytes(&yes, out, at);
+        put_bytes(&SOLVED_YES, out, at)
+    } else {
+        put_bytes(&SOLVED_NO, out, at)
     }
-    let no = SOLVED_NO;
-    lines::inner::put_bytes(&no, out, at)
 }
 
-// Writes the text of a score; its length.
-fn put_score(score: Score, out: &mut [u8]) -> usize
-    requires { (64 ≤ length out.old) × Short score }
+// Writes the text of a score, or of a refusal; its length.
+fn put_score(score: Result<Score, Refusal>, out: &mut [u8]) -> usize
+    requires { (64 ≤ length out.old) × IfOk score Short }
     ensures value { result ≡ length (score_text score) }
     ensures out_after { out.new ≡ over out.old 0 (score_text score) }
 {
-    if score.refusal != 0 {
-        let word = REFUSED;
-        return lines::inner::put_line(&word, score.refusal as u64, out, 0);
+    match score {
+        Err(r) => put_line(&REFUSED, u64::from(u8::from(r)), out, 0),
+        Ok(score) => {
+            let a = put_line(&MOVES, score.moves as u64, out, 0);
+            let b = put_line(&STROKES, score.strokes as u64, out, a);
+            put_solved(score.solved, out, b)
+        }
     }
-    let word = MOVES;
-    let a = lines::inner::put_line(&word, score.moves as u64, out, 0);
-    let word = STROKES;
-    let b = lines::inner::put_line(&word, score.strokes as u64, out, a);
-    put_solved(score.solved, out, b)
 }
 
-// The text of a score.
-pub fn print(score: Score) -> Printed
-    requires { Short score }
+// The text of a score, or of a refusal.
+pub fn print(score: Result<Score, Refusal>) -> Printed
+    requires { IfOk score Short }
     ensures { result ≡ printed_as (score_text score) }
 {
     let mut text = [0u8; 64];

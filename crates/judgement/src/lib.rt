@@ -6,16 +6,15 @@ ghost use Rattle.judgement.specs.Judge.{printed};
 
 pub mod inner;
 
-// What the moves do to the cube, or a refusal by its number; 0 is none.
+// What the moves do to the cube.
 #[derive(Clone, Copy)]
 pub struct Score {
-    pub refusal: u8,
     pub moves: usize,
     pub strokes: usize,
     pub solved: bool,
 }
 
-// A text and its length.
+// A text and its length: C is lent these 64 bytes, zeros behind the text.
 #[derive(Clone, Copy)]
 pub struct Printed {
     pub text: [u8; 64],

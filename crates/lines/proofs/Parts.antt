@@ -1,15 +1,13 @@
 -- The first line of a text and what comes after it. Assumes nothing.
-use mathlib.Core.Path.{◌≡◌, sym, ap, ◌∙◌}
+use mathlib.Core.Path.{◌≡◌, refl, sym, ap, ◌∙◌}
 use mathlib.Core.Bool.{Bool}
-use mathlib.Core.List.{List, []}
-use Prim.Native.Nat.{ℕ, suc, ◌+◌, ◌-◌, ◌<◌, ◌≤◌}
+use mathlib.Core.List.{List, [], ◌∷◌}
+use Prim.Native.Nat.{ℕ, suc, ◌+◌, ◌-◌}
 use native.Mathlib.Omega.{arith}
-use lib.Dec.{eqb}
-use lib.ListN.{length, get_or, take, drop, drop_of_length-le, length-drop}
+use lib.ListN.{length, take, drop, length-drop}
 use lib.Seq.{slice, take_all, take-length, drop-length, drop-drop}
 use borrow.Author.Tests.{eq-eqb, ne_eqb}
 use Rattle.base.specs.Lists.{pick}
-use Rattle.base.proofs.Steps.{next}
 use Rattle.lines.specs.Lines.{index_of}
 
 -- where no LF is left, nothing stands behind it
@@ -26,18 +24,17 @@ found s = let e : index_of 10 (slice 0 (length s) s) ≡ index_of 10 s = ap (ind
 pub to_the_end : (s : List ℕ) (n : ℕ) → take (length s - n) (drop n s) ≡ drop n s
 to_the_end s n = take_all (length s - n) (drop n s) (omega (arith, length-drop n s))
 
--- ---- a search for a byte that has come to the place i
+-- ---- the place of the first byte b, by its first element
 
-at-place : (b : ℕ) (s : List ℕ) (i : ℕ) → i < length s → index_of b (drop i s) ≡ pick (eqb (get_or s i 0) b) 0 (suc (index_of b (drop (i + 1) s)))
+module _ (b x : ℕ) (s : List ℕ) where
+  pub found-here : x ≡ b → index_of b (x ∷ s) ≡ 0
+  unfolding index_of
+  found-here e = ap (λ (t : Bool). pick t 0 (suc (index_of b s))) (eq-eqb x b e)
+
+  pub found-later : (x ≡ b → ⊥) → index_of b (x ∷ s) ≡ index_of b s + 1
+  unfolding index_of
+  found-later n = ap (λ (t : Bool). pick t 0 (suc (index_of b s))) (ne_eqb x b n) ∙ omega arith
+
+pub found-nowhere : (b : ℕ) → index_of b [] ≡ 0
 unfolding index_of
-at-place b s i h = ap (index_of b) (next s i h)
-
-pub find_here : (b : ℕ) (s : List ℕ) (i : ℕ) → i < length s → get_or s i 0 ≡ b → index_of b (drop i s) ≡ 0
-find_here b s i h e = at-place b s i h ∙ ap (λ (v : Bool). pick v 0 (suc (index_of b (drop (i + 1) s)))) (eq-eqb _ b e)
-
-pub find_on : (b : ℕ) (s : List ℕ) (i : ℕ) → i < length s → (get_or s i 0 ≡ b → ⊥) → index_of b (drop i s) ≡ suc (index_of b (drop (i + 1) s))
-find_on b s i h n = at-place b s i h ∙ ap (λ (v : Bool). pick v 0 (suc (index_of b (drop (i + 1) s)))) (ne_eqb _ b n)
-
-pub find_end : (b : ℕ) (s : List ℕ) (i : ℕ) → length s ≤ i → index_of b (drop i s) ≡ 0
-unfolding index_of
-find_end b s i h = ap (index_of b) (drop_of_length-le s h)
+found-nowhere b = refl

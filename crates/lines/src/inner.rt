@@ -8,14 +8,7 @@ pub fn find(s: &[u8], b: u8) -> usize
     ensures value { result ≡ index_of b s.now }
     ensures within { result ≤ length s.now }
 {
-    let mut i = 0;
-    while i < s.len() {
-        if s[i] == b {
-            return i;
-        }
-        i += 1;
-    }
-    i
+    s.iter().position(|x| *x == b).unwrap_or(s.len())
 }
 
 // Where the text after a line starts, if the line ends at `end`.
@@ -32,8 +25,9 @@ pub fn put_bytes(bytes: &[u8], out: &mut [u8], at: usize) -> usize
     ensures value { result ≡ at + length bytes.now }
     ensures out_after { out.new ≡ over out.old at bytes.now }
 {
-    pieces::inner::copy_in(bytes, out, at);
-    at + bytes.len()
+    let end = at + bytes.len();
+    out[at..end].copy_from_slice(bytes);
+    end
 }
 
 // Writes a number in decimal from `at` on; the place after it. The digits before the last one are those of a tenth.

@@ -1,47 +1,29 @@
 // The loops from text to moves and back, without the tests of the public functions.
-ghost use Rattle.std.specs.Prelude.{◌≡◌, map, ◌+◌, ◌≤◌, ◌<◌, ◌^◌, leb, eqb, length, drop};
+ghost use Rattle.std.specs.Prelude.{◌≡◌, map, ◌+◌, ◌≤◌, ◌<◌, ◌^◌, leb, length};
 ghost use Rattle.base.specs.Lists.{Under};
 ghost use Rattle.words.specs.Answers.{over, moves_counted};
-ghost use Rattle.words.specs.Text.{word_of, place, spaced, text_of, parse};
+ghost use Rattle.words.specs.Text.{word_of, spaced, text_of, parse};
 
-use words::Parsed;
+use refusal::Refusal;
 use words::inner::{number_of, put_word, word_len};
 
 // ---- from a text to its moves
 
-// Where the word that starts at `at` ends: the next space, or the end of the text.
-fn word_end(text: &[u8], at: usize) -> usize
-    requires { at ≤ length text.now }
-    ensures { result ≡ at + place (eqb 32) (drop at text.now) }
-{
-    let mut i = at;
-    while i < text.len() {
-        if text[i] == b' ' {
-            return i;
-        }
-        i += 1;
-    }
-    i
-}
-
 // How many moves a text has; 7 for a text that is no move list.
-pub fn count_moves(text: &[u8]) -> Parsed
+pub fn count_moves(text: &[u8]) -> Result<usize, Refusal>
     ensures { result ≡ moves_counted (parse text.now) }
 {
-    if text.len() == 0 {
-        return Parsed::Moves(0);
+    if text.is_empty() {
+        return Ok(0);
     }
     let mut n = 0;
-    let mut at = 0;
-    while at <= text.len() {
-        let end = word_end(text, at);
-        if number_of(&text[at..end]) >= 18 {
-            return Parsed::Refused(7);
+    for word in text.split(|b| *b == b' ') {
+        if number_of(word) >= 18 {
+            return Err(Refusal::Move);
         }
         n += 1;
-        at = end + 1;
     }
-    Parsed::Moves(n)
+    Ok(n)
 }
 
 // Writes the numbers of the `n` words of a text.
@@ -49,13 +31,12 @@ pub fn put_moves(text: &[u8], n: usize, moves: &mut [u8])
     requires { (n ≡ length (parse text.now)) × (n ≤ length moves.old) }
     ensures { moves.new ≡ over moves.old 0 (parse text.now) }
 {
-    let mut at = 0;
-    let mut i = 0;
-    while i < n {
-        let end = word_end(text, at);
-        moves[i] = number_of(&text[at..end]);
-        at = end + 1;
-        i += 1;
+    // an empty text has no words, where `split` gives one
+    if n == 0 {
+        return;
+    }
+    for (i, word) in text.split(|b| *b == b' ').enumerate() {
+        moves[i] = number_of(word);
     }
 }
 
@@ -67,14 +48,12 @@ pub fn text_fits(moves: &[u8], room: usize) -> bool
     ensures { result ≡ leb (length (text_of moves.now)) room }
 {
     let mut left = room + 1;
-    let mut i = 0;
-    while i < moves.len() {
-        let need = word_len(moves[i]) + 1;
+    for m in moves {
+        let need = word_len(*m) + 1;
         if left < need {
             return false;
         }
         left -= need;
-        i += 1;
     }
     true
 }
@@ -86,11 +65,9 @@ pub fn put_spaced(moves: &[u8], text: &mut [u8], at: usize) -> usize
     ensures text_after { text.new ≡ over text.old at (spaced (map word_of moves.now)) }
 {
     let mut end = at;
-    let mut i = 0;
-    while i < moves.len() {
+    for m in moves {
         text[end] = b' ';
-        end = put_word(moves[i], text, end + 1);
-        i += 1;
+        end = put_word(*m, text, end + 1);
     }
     end
 }
@@ -101,7 +78,7 @@ pub fn put_text(moves: &[u8], text: &mut [u8]) -> usize
     ensures value { result ≡ length (text_of moves.now) }
     ensures text_after { text.new ≡ over text.old 0 (text_of moves.now) }
 {
-    if moves.len() == 0 {
+    if moves.is_empty() {
         return 0;
     }
     let at = put_word(moves[0], text, 0);

@@ -1,73 +1,26 @@
 // One coordinate after one move, by the cubes of the 18 moves.
-ghost use Rattle.std.specs.Prelude.{◌≡◌, ◌<◌, length};
-ghost use Rattle.base.specs.Product.{compose};
-ghost use Rattle.cubie.specs.Cube.{move_of};
-ghost use Rattle.numbering.specs.Kinds.{co, eo, cp};
-ghost use Rattle.move_row.specs.Tables.{table_at, Domain, moved, cubes_to};
+ghost use Rattle.std.specs.Prelude.{◌≡◌, ◌<◌};
+ghost use Rattle.move_row.specs.Tables.{number, table_at, Domain, moved, move_cubes};
 
+use cubie::CubieCube;
+use move_row::MoveTable;
 use numbering::inner::e_combo_to_index;
 use orientation::inner::{co_to_index, eo_to_index};
 use permutation::inner::{cp_to_index, e_ep_to_index, ud_ep_to_index};
 use turning::inner::{permute, twist};
 
-fn co_after(a: &[u8], cubes: &[u8], m: usize) -> u16
-    requires { Domain co a.now × (cubes.now ≡ cubes_to 18) × (m < 18) }
-    ensures { result ≡ moved co a.now m }
+// The coordinate of table t after move m of an arrangement.
+pub fn entry_after(t: MoveTable, a: &[u8], cubes: &[CubieCube; 18], m: usize) -> u16
+    requires { Domain (table_at (number t)).kind a.now × (cubes.now ≡ move_cubes) × (m < 18) }
+    ensures { result ≡ moved (table_at (number t)).kind a.now m }
 {
-    let at = 40 * m;
-    let mut out = [0u8; 8];
-    twist(a, &cubes[at..at + 8], &cubes[at + 8..at + 16], 3, &mut out);
-    co_to_index(out).0
-}
-
-fn eo_after(a: &[u8], cubes: &[u8], m: usize) -> u16
-    requires { Domain eo a.now × (cubes.now ≡ cubes_to 18) × (m < 18) }
-    ensures { result ≡ moved eo a.now m }
-{
-    let at = 40 * m + 16;
-    let mut out = [0u8; 12];
-    twist(
-        a,
-        &cubes[at..at + 12],
-        &cubes[at + 12..at + 24],
-        2,
-        &mut out,
-    );
-    eo_to_index(out).0
-}
-
-fn cp_after(a: &[u8], cubes: &[u8], m: usize) -> u16
-    requires { Domain cp a.now × (cubes.now ≡ cubes_to 18) × (m < 18) }
-    ensures { result ≡ moved cp a.now m }
-{
-    let at = 40 * m;
-    let mut out = [0u8; 8];
-    permute(a, &cubes[at..at + 8], &mut out);
-    cp_to_index(out).0
-}
-
-// The edges after move m.
-fn edges_after(a: &[u8], cubes: &[u8], m: usize) -> [u8; 12]
-    requires { (length a.now ≡ 12) × (cubes.now ≡ cubes_to 18) × (m < 18) }
-    ensures { result ≡ compose a.now (move_of m).ep }
-{
-    let at = 40 * m + 16;
-    let mut out = [0u8; 12];
-    permute(a, &cubes[at..at + 12], &mut out);
-    out
-}
-
-// The coordinate of an arrangement after move m, by the number of its table.
-pub fn entry_after(t: u8, a: &[u8], cubes: &[u8], m: usize) -> u16
-    requires { (t < 6) × Domain (table_at t).kind a.now × (cubes.now ≡ cubes_to 18) × (m < 18) }
-    ensures { result ≡ moved (table_at t).kind a.now m }
-{
+    let c = &cubes[m];
     match t {
-        0 => co_after(a, cubes, m),
-        1 => eo_after(a, cubes, m),
-        2 => e_combo_to_index(edges_after(a, cubes, m)).0,
-        3 => cp_after(a, cubes, m),
-        4 => ud_ep_to_index(edges_after(a, cubes, m)).0,
-        _ => e_ep_to_index(edges_after(a, cubes, m)).0,
+        MoveTable::Co => co_to_index(twist(a, &c.cp, &c.co, 3)).0,
+        MoveTable::Eo => eo_to_index(twist(a, &c.ep, &c.eo, 2)).0,
+        MoveTable::ECombo => e_combo_to_index(permute(a, &c.ep)).0,
+        MoveTable::Cp => cp_to_index(permute(a, &c.cp)).0,
+        MoveTable::UdEp => ud_ep_to_index(permute(a, &c.ep)).0,
+        MoveTable::EEp => e_ep_to_index(permute(a, &c.ep)).0,
     }
 }

@@ -13,13 +13,13 @@ use Rattle.base.specs.Lists.{all_below, Under}
 use Rattle.base.proofs.Tests.{and-true, below_true}
 use Rattle.moves.specs.Moves.{inverse_move, all_moves, phase2_moves}
 use Rattle.numbering.specs.Kinds.{after}
-use Rattle.move_row.specs.Tables.{MoveTable, table_at, columns, true_table}
+use Rattle.move_row.specs.Tables.{Table, table_at, columns, true_table}
 use Rattle.move_table.proofs.Rows.{row_at, table-part, table-length}
 use Rattle.move_row.proofs.Six.{by-table}
 use Rattle.move_table.proofs.Undone.{after_small, after-undone, co-keeps, eo-keeps, e-combo-keeps, cp-keeps, ud-ep-keeps, e-ep-keeps}
 
 -- row i, column j
-pub entry_at : (t : MoveTable) (i j : ℕ) → i < t.kind.count → j < columns t → get_or (true_table t) (i * columns t + j) 0 ≡ after t.kind i (get_or t.moves j 0)
+pub entry_at : (t : Table) (i j : ℕ) → i < t.kind.count → j < columns t → get_or (true_table t) (i * columns t + j) 0 ≡ after t.kind i (get_or t.moves j 0)
 entry_at t i j h l =
     sym (get_or-drop (i * columns t) (true_table t) j 0) ∙ sym (get_or-take (columns t) (drop (i * columns t) (true_table t)) j 0 l)
     ∙ ap (λ (r : List ℕ). get_or r j 0) (table-part t i (columns t) refl h) ∙ row_at t i j l

@@ -7,13 +7,15 @@ use Prim.Native.Nat.{ℕ, suc, ◌+◌, ◌-◌, ◌*◌, ◌≤◌, ◌<◌}
 use native.Mathlib.Nat.{not-suc-le-zero}
 use native.Mathlib.Omega.{arith}
 use borrow.Rule.Slice.PartMut.{mid_len, Post-is}
-use lib.Dec.{eqb}
+use lib.Dec.{eqb, ltb}
 use lib.ListN.{length, get_or, take, drop, drop_of_length-le, take-append-drop}
 use lib.Seq.{drop-drop}
-use borrow.Author.Tests.{eq-eqb, ne_eqb}
+use borrow.Author.Tests.{eq-eqb, ne_eqb, lt-ltb, le-ltb, ltb-true, ltb-false}
+use Rattle.std.proofs.Common.{Option, Some, None, cond, not}
+use Rattle.std.specs.List.{position, position_or_len, zip}
 use Rattle.base.specs.Lists.{pick}
 use Rattle.base.proofs.Steps.{next}
-use Rattle.move_row.specs.Tables.{first_off}
+use Rattle.move_row.specs.Tables.{first_off, off_place}
 
 -- ---- two lists one behind the other
 
@@ -94,3 +96,51 @@ module _ (whole s row : List ℕ) (i c : ℕ) (inv : first_off whole s ≡ i * c
       omega
       (arith, split, off_rest (drop (a + c) whole) (drop (a + c) s) row (take (a + c - a) (drop a s)) (size ∙ sym lent_length) (omega arith)) in
       f ∙ ap (λ (k : ℕ). k + first_off (drop k whole) (drop k s)) (sym n)
+
+-- ---- the place as an option
+
+module _ (xs ys : List ℕ) where
+  pub some-off : {e : ℕ} → e ≡ first_off xs ys → e < length xs → Some e ≡ off_place xs ys
+  some-off e h = let l : first_off xs ys < length xs = omega arith in rw (lt-ltb _ _ l) (ap Some e)
+
+  pub none-off : length xs ≤ first_off xs ys → None ≡ off_place xs ys
+  none-off h = rw (le-ltb _ _ h) refl
+
+  -- what an answer says of the place
+  pub off-some : {r : Option ℕ} {j : ℕ} → r ≡ off_place xs ys → r ≡ Some j → (j ≡ first_off xs ys) × (j < length xs)
+  off-some {r} {j} e is = go (ltb (first_off xs ys) (length xs)) refl (sym is ∙ e)
+    where
+      go : (b : Bool) → ltb (first_off xs ys) (length xs) ≡ b → Some j ≡ pick b (Some (first_off xs ys)) None → (j ≡ first_off xs ys) × (j < length xs)
+      go true t f = let k : j ≡ first_off xs ys = cc in (k, rw k (ltb-true _ _ t))
+      go false t f = absurd (cc)
+
+  pub off-same : {r : Option ℕ} → r ≡ off_place xs ys → r ≡ None → length xs ≤ first_off xs ys
+  off-same {r} e is = go (ltb (first_off xs ys) (length xs)) refl (sym is ∙ e)
+    where
+      go : (b : Bool) → ltb (first_off xs ys) (length xs) ≡ b → None ≡ pick b (Some (first_off xs ys)) None → length xs ≤ first_off xs ys
+      go true t f = absurd (cc)
+      go false t f = ltb-false _ _ t
+
+-- what `position` finds in the pairs of two lists of one length
+zip-length : (xs ys : List ℕ) → length xs ≡ length ys → length (zip xs ys) ≡ length xs
+zip-length [] ys l = refl
+zip-length (x ∷ xs) [] l = absurd (omega arith)
+zip-length (x ∷ xs) (y ∷ ys) l = ap suc (zip-length xs ys (omega arith))
+
+zip-first : (xs ys : List ℕ) → length xs ≡ length ys → position_or_len (λ p. not (eqb p.0 p.1)) (zip xs ys) ≡ first_off xs ys
+unfolding first_off
+zip-first [] ys l = refl
+zip-first (x ∷ xs) [] l = absurd (omega arith)
+zip-first (x ∷ xs) (y ∷ ys) l = go (eqb x y) (zip-first xs ys (omega arith))
+  where
+    go : (b : Bool) → position_or_len (λ p. not (eqb p.0 p.1)) (zip xs ys) ≡ first_off xs ys
+        → cond (not (not b)) (1 + position_or_len (λ p. not (eqb p.0 p.1)) (zip xs ys)) 0 ≡ pick b (suc (first_off xs ys)) 0
+    go true e = omega (arith, e)
+    go false e = refl
+
+pub zip-off : (xs ys : List ℕ) → length xs ≡ length ys → position (λ p. not (eqb p.0 p.1)) (zip xs ys) ≡ off_place xs ys
+zip-off xs ys l = rw (zip-first xs ys l, zip-length xs ys l) (go (ltb (first_off xs ys) (length xs)))
+  where
+    go : (b : Bool) → cond b (Some (first_off xs ys)) None ≡ pick b (Some (first_off xs ys)) None
+    go true = refl
+    go false = refl

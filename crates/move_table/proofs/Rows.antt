@@ -1,6 +1,6 @@
 -- The rows of a true table: how long a row and the table are, what stands in them, and what one turn of the loops of `fill_row` and `fill` writes.
 -- Assumes nothing.
-use mathlib.Core.Path.{◌≡◌, sym, ap, ap₂, ◌∙◌}
+use mathlib.Core.Path.{◌≡◌, sym, ap, ap₂, subst, ◌∙◌}
 use mathlib.Core.List.{List, ◌++◌, append_assoc}
 use Prim.Native.Nat.{ℕ, zero, suc, ◌+◌, ◌-◌, ◌*◌, ◌≤◌, ◌<◌}
 use native.Mathlib.Nat.{not-suc-le-zero, le_of_suc-le-suc, zero-mul, zero-add, suc-mul}
@@ -9,9 +9,13 @@ use borrow.Rule.Slice.PartMut.{put_mid, same_len_mid, mid_len, take_put}
 use lib.ListN.{length, get_or, take, drop, length-append}
 use lib.Seq.{take_at, drop_at, drop-drop, drop-append-add, take-add, length-take-le, take_all, paste}
 use Rattle.base.proofs.Product.{map-range-at, map-range-length}
-use Rattle.move_row.specs.Tables.{MoveTable, columns, size, true_entry, true_row, rows_from, true_table, moved}
+use Rattle.move_row.proofs.Rows.{row-domain}
+use Rattle.move_row.proofs.Six.{number-lt}
+use Rattle.move_row.specs.Tables.{Table, number, table_at, columns, size, true_entry, true_row, rows_from, true_table, moved, Domain}
+use Rattle.move_row.specs.declared.MoveTable.{MoveTable}
+use Rattle.move_table.proofs.Bounds.{column-moves}
 
-module _ (t : MoveTable) where
+module _ (t : Table) where
   pub row-length : (i : ℕ) → length (true_row t i) ≡ columns t
   unfolding true_row
   row-length i = map-range-length (true_entry t i) (columns t)
@@ -58,6 +62,12 @@ module _ (t : MoveTable) where
   -- the same with the number of columns as `columns_of` answers it
   pub table-part : (k c : ℕ) → c ≡ columns t → k < t.kind.count → take c (drop (k * c) (true_table t)) ≡ true_row t k
   table-part k c e h = ap (λ (n : ℕ). take n (drop (k * n) (true_table t))) e ∙ table-row k h
+
+-- what `entry_after` asks for at row i, column j of table t: its arrangement xs is in the domain, and its column's move is one
+pub entry-fits : (t : MoveTable) (i j m : ℕ) (xs : List ℕ) → i < (table_at (number t)).kind.count → j < columns (table_at (number t))
+    → xs ≡ (table_at (number t)).kind.arrangement i → m ≡ get_or (table_at (number t)).moves j 0 → Domain (table_at (number t)).kind xs × (m < 18)
+entry-fits t i j m xs h k e f =
+    (subst (λ (l : List ℕ). Domain (table_at (number t)).kind l) (sym e) (row-domain (number t) i (number-lt t) h), omega (arith, column-moves (number t) j (number-lt t) k))
 
 -- the first k rows, c columns each, are written, and so is row k
 module _ (out goal ys : List ℕ) (k c : ℕ) (fits : k * c + c ≤ length out) (e : take (k * c) out ≡ take (k * c) goal) (size : length ys ≡ c) where

@@ -1,26 +1,18 @@
--- The answers by cases: refused, or not. Assumes nothing.
+-- The lowest and the first of two refusals. Assumes nothing.
 use mathlib.Core.Path.{◌≡◌, refl}
 use mathlib.Core.Bool.{Bool, true, false}
 use Prim.Native.Nat.{ℕ, zero, ◌<◌, min}
 use native.Mathlib.Omega.{arith}
 use lib.Dec.{ltb, eqb}
-use borrow.Author.Tests.{eq-eqb, ne_eqb, eqb-true, eqb-false, ltb-true}
+use borrow.Author.Tests.{eq-eqb, ne_eqb, eqb-true, eqb-false, ltb-true, leb-true, leb-false}
+use Rattle.std.proofs.Common.{rules, Err, suc, ◌∙◌, leb}
+use native.Mathlib.Nat.{min-eq_left, min-eq_right, le_of_lt}
 use Rattle.base.specs.Lists.{pick}
-use Rattle.moves.specs.Answers.{lowest_of, first_of, told, counted}
+use Rattle.refusal.specs.declared.Refusal.{Refusal}
+use Rattle.refusal.specs.Refusals.{answered, checked, lowest}
+use Rattle.refusal.proofs.Laws.{lowest_both, stays}
+use Rattle.moves.specs.Answers.{lowest_of, first_of}
 use Rattle.moves.specs.Moves.{move_refusal}
-use Rattle.moves.specs.declared.Answer.TheVariants as answer
-use Rattle.moves.specs.declared.Number.TheVariants as number
-
--- n: the refusal that the code found, m: that of the definition
-module _ (n m : ℕ) (e : n ≡ m) where
-  pub told-refused : (n ≡ 0 → ⊥) → (b : Bool) → answer.Refused n ≡ told m b
-  told-refused h b = rw (← e, ne_eqb n 0 h)
-
-  pub counted-refused : (n ≡ 0 → ⊥) → (k : ℕ) → number.Refused n ≡ counted m k
-  counted-refused h k = rw (← e, ne_eqb n 0 h)
-
-  pub counted_is : n ≡ 0 → (j k : ℕ) → j ≡ k → number.Is j ≡ counted m k
-  counted_is z j k s = rw (← e, eq-eqb n 0 z, s)
 
 pub lowest-none : (m n : ℕ) → lowest_of m n ≡ 0 → (m ≡ 0) × (n ≡ 0)
 unfolding lowest_of
@@ -53,3 +45,37 @@ move-none m h = go (ltb m 18) refl h
     go : (p : Bool) → ltb m 18 ≡ p → pick p 0 7 ≡ zero → m < 18
     go true a e = ltb-true m 18 a
     go false a e = absurd (omega arith)
+
+pub lowest_right : (m n : ℕ) → m ≡ 0 → lowest_of m n ≡ n
+unfolding lowest_of
+lowest_right m n h = rw h refl
+
+-- of two moves, a first that is refused decides
+pub either_refused : (m n : ℕ) (r : Refusal) → checked (move_refusal m) ≡ Err r → checked (lowest_of (move_refusal m) (move_refusal n)) ≡ Err r
+unfolding lowest_of
+either_refused m n r = go (ltb m 18) (ltb n 18)
+  where
+    go : (p q : Bool) → checked (pick p 0 7) ≡ Err r → checked (lowest_of (pick p 0 7) (pick q 0 7)) ≡ Err r
+    go true q e = search rules
+    go false true e = e
+    go false false e = e
+
+pub lowest_checked : (m n : ℕ) → m < 16 → n < 16 → lowest (checked m) (checked n) ≡ checked (lowest_of m n)
+unfolding lowest_of
+lowest_checked zero n l h = refl
+lowest_checked (suc m) zero l h = let e = ne_eqb (suc m) 0 (λ e. omega arith) in rw (e, e) refl
+lowest_checked (suc m) (suc n) l h = lowest_both m n (omega (arith, l)) (omega (arith, h)) ∙ go (leb (suc m) (suc n)) refl
+  where
+    go : (p : Bool) → leb (suc m) (suc n) ≡ p → pick p (checked (suc m)) (checked (suc n)) ≡ checked (lowest_of (suc m) (suc n))
+    go true e = rw (ne_eqb (suc m) 0 (λ e. omega arith), ne_eqb (suc n) 0 (λ e. omega arith), min-eq_left (leb-true (suc m) (suc n) e), ne_eqb (suc m) 0 (λ e. omega arith)) refl
+    go false e = rw (ne_eqb (suc m) 0 (λ e. omega arith), ne_eqb (suc n) 0 (λ e. omega arith), min-eq_right (le_of_lt (leb-false (suc m) (suc n) e)), ne_eqb (suc n) 0 (λ e. omega arith)) refl
+
+-- what stands after the first of two refusals
+pub first_stays : {A : Type 0} (m n : ℕ) (r : Refusal) (a : A) → checked m ≡ Err r → answered (first_of m n) a ≡ Err r
+unfolding first_of
+first_stays zero n r a e = search rules
+first_stays (suc m) n r a e = rw (ne_eqb (suc m) 0 (λ z. omega arith)) (stays (suc m) r a e)
+
+pub first_next : {A : Type 0} (m n : ℕ) (a : A) → m ≡ 0 → answered (first_of m n) a ≡ answered n a
+unfolding first_of
+first_next m n a z = rw z refl

@@ -1,61 +1,50 @@
-// What other crates call without the tests of the public functions, and the answers that refusals make.
-ghost use Rattle.std.specs.Prelude.{◌≡◌, ◌<◌, ◌/◌};
-ghost use Rattle.moves.specs.Answers.{told, lowest_of, first_of};
-ghost use Rattle.moves.specs.Moves.{move_refusal, is_inverse, is_same_layer, inverse_move, is_available};
+// What other crates call without the tests of the public functions, and the test of a move's number.
+ghost use Rattle.std.specs.Prelude.{◌≡◌, ◌<◌, ◌/◌, IfOk};
+ghost use Rattle.base.specs.Lists.{Under};
+ghost use Rattle.refusal.specs.Refusals.{checked};
+ghost use Rattle.moves.specs.Answers.{lowest_of};
+ghost use Rattle.moves.specs.Moves.{move_refusal, moves_refusal, is_inverse, is_same_layer, inverse_move, is_available};
 
-use crate::Answer;
+use pieces::inner::in_range;
+use refusal::Refusal;
 
-// The lowest of two refusals, where 0 is none.
-pub fn lowest(m: u8, n: u8) -> u8
-    ensures { result ≡ lowest_of m n }
+// Refuses a number that is no move's.
+pub fn check_move(m: u8) -> Result<(), Refusal>
+    ensures value { result ≡ checked (move_refusal m) }
+    ensures is_move { IfOk result (λ _. m < 18) }
 {
-    if m == 0 {
-        return n;
-    }
-    if n == 0 {
-        return m;
-    }
-    if m < n { m } else { n }
+    if m < 18 { Ok(()) } else { Err(Refusal::Move) }
 }
 
-// The first of two refusals that is one, where 0 is none.
-pub fn first(m: u8, n: u8) -> u8
-    ensures { result ≡ first_of m n }
+// Refuses two numbers if either is no move's.
+pub fn check_both(m: u8, other: u8) -> Result<(), Refusal>
+    ensures { result ≡ checked (lowest_of (move_refusal m) (move_refusal other)) }
 {
-    if m == 0 { n } else { m }
+    check_move(m)?;
+    check_move(other)
 }
 
-pub fn tell(refusal: u8, yes: bool) -> Answer
-    ensures { result ≡ told refusal yes }
+// Refuses a list if a number of it is no move's.
+pub fn check_list(moves: &[u8]) -> Result<(), Refusal>
+    ensures value { result ≡ checked (moves_refusal moves.now) }
+    ensures are_moves { IfOk result (λ _. Under 18 moves.now) }
 {
-    if refusal != 0 {
-        return Answer::Refused(refusal);
+    if in_range(moves, 18) {
+        Ok(())
+    } else {
+        Err(Refusal::Move)
     }
-    if yes { Answer::Yes } else { Answer::No }
-}
-
-// 7 for a number that is no move's, else 0.
-pub fn move_refusal(m: u8) -> u8
-    ensures { result ≡ move_refusal m }
-{
-    if m < 18 { 0 } else { 7 }
 }
 
 pub fn is_inverse(m: u8, other: u8) -> bool
     ensures { result ≡ is_inverse m other }
 {
-    let a = m / 3;
-    let b = other / 3;
-    if a == 0 {
-        return b == 1;
+    match m / 3 {
+        0 => other / 3 == 1,
+        2 => other / 3 == 3,
+        4 => other / 3 == 5,
+        _ => false,
     }
-    if a == 2 {
-        return b == 3;
-    }
-    if a == 4 {
-        return b == 5;
-    }
-    false
 }
 
 pub fn is_same_layer(m: u8, other: u8) -> bool
@@ -75,11 +64,5 @@ pub fn get_inverse(m: u8) -> u8
 pub fn is_move_available(prev: u8, current: u8) -> bool
     ensures { result ≡ is_available prev current }
 {
-    if current == prev {
-        return false;
-    }
-    if is_inverse(current, prev) {
-        return false;
-    }
-    !is_same_layer(current, prev)
+    current != prev && !is_inverse(current, prev) && !is_same_layer(current, prev)
 }

@@ -8,7 +8,7 @@ use native.Mathlib.Omega.{arith}
 use borrow.Rule.Slice.PartMut.{put_mid, same_len_mid}
 use lib.Arith.{mod-mul, digits_div, digits_mod}
 use lib.ListN.{length, get_or, take, drop, set, length-map, length-set, length-drop, drop_of_length-le}
-use lib.Seq.{length-take-le, take-suc, take_all, append_snoc, get_or_at, set_at, set-get_or, drop_at, drop-length, drop-set-lt, take-suc-set}
+use lib.Seq.{length-take-le, take-suc, take_all, append_snoc, get_or_at, set_at, drop_at, drop-length, drop-set-lt, take-suc-set}
 use Rattle.base.specs.Lists.{Under}
 use Rattle.base.specs.Perm.{fact, bump, perm_of}
 use Rattle.base.proofs.Perm.{bump-is, fact-pos, perm_of-perm}
@@ -46,19 +46,14 @@ module _ (d j : ℕ) (s₀ s : List ℕ) (h : j < length s) (l : length s ≡ le
   pub raised-same : get_or s j 0 ≡ get_or s₀ j 0
   raised-same = ap (λ (r : List ℕ). get_or r j 0) inv ∙ raised_at d j s₀ (omega arith)
 
-  turn : (t : List ℕ) (v : ℕ) → t ≡ set s j v → v ≡ bump d (get_or s j 0) → (j + 1 ≤ length t) × (length t ≡ length s₀) × (t ≡ raised d (j + 1) s₀)
-  turn t v e b =
-      let k : length t ≡ length s = ap length e ∙ length-set s j v in (
-        omega arith,
-        k ∙ l,
-        e ∙ ap₂ (λ (r : List ℕ) (x : ℕ). set r j x) inv (b ∙ ap (bump d) raised-same) ∙ sym (raised-more d j s₀ (omega arith)),
-      )
+  turn : (t : List ℕ) (v : ℕ) → t ≡ set s j v → v ≡ bump d (get_or s j 0) → t ≡ raised d (j + 1) s₀
+  turn t v e b = e ∙ ap₂ (λ (r : List ℕ) (x : ℕ). set r j x) inv (b ∙ ap (bump d) raised-same) ∙ sym (raised-more d j s₀ (omega arith))
 
-  pub raise-yes : (t : List ℕ) → t ≡ set s j (get_or s j 0 + 1) → d ≤ get_or s j 0 → (j + 1 ≤ length t) × (length t ≡ length s₀) × (t ≡ raised d (j + 1) s₀)
+  pub raise-yes : (t : List ℕ) → t ≡ set s j (get_or s j 0 + 1) → d ≤ get_or s j 0 → t ≡ raised d (j + 1) s₀
   raise-yes t e le = turn t (get_or s j 0 + 1) e (omega (arith, bump-is d (get_or s j 0)))
 
-  pub raise-no : (t : List ℕ) → t ≡ s → get_or s j 0 < d → (j + 1 ≤ length t) × (length t ≡ length s₀) × (t ≡ raised d (j + 1) s₀)
-  raise-no t e lt = turn t (get_or s j 0) (e ∙ sym (set-get_or s j 0)) (omega (arith, bump-is d (get_or s j 0)))
+  pub raise-no : (t : List ℕ) → t ≡ set s j (get_or s j 0) → get_or s j 0 < d → t ≡ raised d (j + 1) s₀
+  raise-no t e lt = turn t (get_or s j 0) e (omega (arith, bump-is d (get_or s j 0)))
 
 -- base on top of the permutation of m places that the last digits of k give
 abbrev pub filled : ℕ → ℕ → ℕ → List ℕ

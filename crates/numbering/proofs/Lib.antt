@@ -1,4 +1,5 @@
 pub mod Combination
+pub mod Counting
 pub mod Fill
 pub mod Numbers
 pub mod Orientation

@@ -1,4 +1,4 @@
--- What the loops of `orientation_to_index` and `fill_orientation_slice` do to the list. Assumes nothing.
+-- What the loops of `orientation_to_index` and `index_to_orientation` do to the list. Assumes nothing.
 use mathlib.Core.Path.{◌≡◌, refl, sym, ap, ap₂, ◌∙◌}
 use mathlib.Core.List.{List, [], ◌∷◌, ◌++◌}
 use Prim.Native.Nat.{ℕ, zero, suc, ◌+◌, ◌-◌, ◌*◌, ◌/◌, ◌%◌, ◌^◌, ◌≤◌, ◌<◌}
@@ -50,7 +50,7 @@ all_but_last k n xs l pos top u =
     let e : length (take n xs) ≡ n = simp length-take (omega arith) in
     (pos, rw e top, under-take k n xs u)
 
--- ---- fill_orientation_slice: the last m digits of v, the highest of them first
+-- ---- index_to_orientation: the last m digits of v, the highest of them first
 
 abbrev pub lowest : ℕ → ℕ → ℕ → List ℕ
 lowest k m v = digits_of k m (v % k ^ m)

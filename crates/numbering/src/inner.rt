@@ -12,15 +12,7 @@ pub fn count_below_4(s: &[u8]) -> u8
     requires { length s.now ≤ 12 }
     ensures { result ≡ below 4 s.now }
 {
-    let mut count: u8 = 0;
-    let mut i = 0;
-    while i < s.len() {
-        if s[i] < 4 {
-            count += 1;
-        }
-        i += 1;
-    }
-    count
+    s.iter().filter(|x| **x < 4).count() as u8
 }
 
 // n over k.
@@ -32,11 +24,9 @@ fn calculate_combo(n: u8, k: u8) -> u16
         return 0;
     }
     let mut result: u16 = 1;
-    let mut i: u16 = 0;
-    while i < k as u16 {
+    for i in 0..k as u16 {
         result *= n as u16 - i;
         result /= i + 1;
-        i += 1;
     }
     result
 }
@@ -47,9 +37,7 @@ pub fn e_combo_to_index(edge: [u8; 12]) -> ECombo
 {
     let mut index: u16 = 0;
     let mut k: u8 = 4;
-    let mut i: u8 = 12;
-    while 0 < i {
-        i -= 1;
+    for i in (0..12u8).rev() {
         if edge[i as usize] < 4 {
             index += calculate_combo(i, k);
             k -= 1;
@@ -65,9 +53,7 @@ pub fn index_to_e_combo(index: ECombo) -> [u8; 12]
     let mut combo = [4u8; 12];
     let mut rest = index.0;
     let mut k: u8 = 4;
-    let mut i: u8 = 12;
-    while 0 < i {
-        i -= 1;
+    for i in (0..12u8).rev() {
         let c = calculate_combo(i, k);
         if rest >= c {
             combo[i as usize] = k - 1;

@@ -13,31 +13,29 @@ fn orientation_to_index(s: &[u8], cases: u8) -> u16
     ensures { result ≡ digits cases s.now }
 {
     let mut index: u16 = 0;
-    let mut i = 0;
-    while i < s.len() {
-        index = index * cases as u16 + s[i] as u16;
-        i += 1;
+    for x in s {
+        index = index * cases as u16 + *x as u16;
     }
     index
 }
 
 // The digits of `index`, from the last place but one to the first; the last place brings the sum to 0 modulo `cases`.
-fn fill_orientation_slice(s: &mut [u8], cases: u8, index: u16)
-    requires { (0 < length s.old) × (length s.old ≤ 12) × (0 < cases) × (cases ≤ 20) × (index < cases ^ (length s.old - 1)) }
-    ensures { s.new ≡ orientation_of cases (length s.old - 1) index }
+fn index_to_orientation<const N: usize>(cases: u8, index: u16) -> [u8; N]
+    requires { (0 < N) × (N ≤ 12) × (0 < cases) × (cases ≤ 20) × (index < cases ^ (N - 1)) }
+    ensures { result ≡ orientation_of cases (N - 1) index }
 {
-    let last = s.len() - 1;
+    let mut s = [0u8; N];
+    let last = N - 1;
     let mut rest = index;
     let mut sum: u8 = 0;
-    let mut i = last;
-    while 0 < i {
-        i -= 1;
+    for i in (0..last).rev() {
         let d = (rest % cases as u16) as u8;
         rest /= cases as u16;
         s[i] = d;
         sum += d;
     }
     s[last] = (cases - sum % cases) % cases;
+    s
 }
 
 pub fn co_to_index(corner: [u8; 8]) -> Co
@@ -51,9 +49,7 @@ pub fn index_to_co(index: Co) -> [u8; 8]
     requires { index.0 < 2187 }
     ensures { result ≡ co_of index.0 }
 {
-    let mut co = [0u8; 8];
-    fill_orientation_slice(&mut co, 3, index.0);
-    co
+    index_to_orientation(3, index.0)
 }
 
 pub fn eo_to_index(edge: [u8; 12]) -> Eo
@@ -67,7 +63,5 @@ pub fn index_to_eo(index: Eo) -> [u8; 12]
     requires { index.0 < 2048 }
     ensures { result ≡ eo_of index.0 }
 {
-    let mut eo = [0u8; 12];
-    fill_orientation_slice(&mut eo, 2, index.0);
-    eo
+    index_to_orientation(2, index.0)
 }

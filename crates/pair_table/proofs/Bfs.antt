@@ -13,7 +13,8 @@ use borrow.Author.Count.{below_more}
 use Rattle.pair_table.specs.Pairs.{next, held, Walks, Least}
 use Rattle.pair_table.specs.Tables.{Ready, Closed}
 use Rattle.pair_table.specs.Answers.{Layer, ExpandedAt, Expanded, Unreached255, Outcome}
-use Rattle.pair_table.specs.declared.Built.TheVariants.{Done, Unreached}
+use Rattle.pair_table.specs.declared.BuildError.TheVariants.{Unreached}
+use Rattle.std.specs.Prelude.{Ok, Err}
 use Rattle.pair_table.proofs.Truth.{walk-in, least-one}
 
 -- ---- expanding one pair
@@ -156,8 +157,8 @@ all_known step k n tab y e none p l = ⊎_elim (λ w. w) (λ w. absurd (none (p,
 
 -- what the builder may answer of it
 module _ (t1 t2 tab tab' : List ℕ) (n1 n2 k : ℕ) (r : Ready t1 t2 tab n1 n2 k) (e : length tab' ≡ length tab) (y : Layer (next t1 t2 n2 k) k (n1 * n2) 254 tab') where
-  pub last-unreached : Unreached255 tab' → Outcome t1 t2 n1 n2 k tab tab' Unreached
+  pub last-unreached : Unreached255 tab' → Outcome t1 t2 n1 n2 k tab tab' (Err Unreached)
   last-unreached u = (r, e, y, u)
 
-  pub last_done : (Unreached255 tab' → ⊥) → Outcome t1 t2 n1 n2 k tab tab' Done
+  pub last_done : (Unreached255 tab' → ⊥) → Outcome t1 t2 n1 n2 k tab tab' (Ok tt)
   last_done none = (r, e, all_known (next t1 t2 n2 k) k (n1 * n2) tab' y (e ∙ r.sized.pairs) none)

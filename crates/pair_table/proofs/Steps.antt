@@ -81,3 +81,8 @@ module _ (t1 t2 tab : List ℕ) (n1 n2 k : ℕ) (r : Ready t1 t2 tab n1 n2 k) wh
   -- there is a pair 0
   pub ready-pos : 0 < n1 * n2
   ready-pos = mul-pos r.counts.pos1 r.counts.pos2
+
+-- the step from pair p, by its two rows
+pub step-is : (t1 t2 : List ℕ) (n2 k p m i j : ℕ) → i ≡ p / n2 → j ≡ p % n2 → get_or t1 (i * k + m) 0 * n2 + get_or t2 (j * k + m) 0 ≡ next t1 t2 n2 k p m
+unfolding next
+step-is t1 t2 n2 k p m i j e f = ap₂ (λ (x y : ℕ). get_or t1 (x * k + m) 0 * n2 + get_or t2 (y * k + m) 0) e f

@@ -10,6 +10,12 @@ pub record Counts (n1 n2 k : ℕ) : Type 0 where
   pub most2 : n2 ≤ 65536
   pub moves : k ≤ 256
 
+-- two move tables of such counts: each is flat, row after row
+pub record Fits (t1 t2 : List ℕ) (n1 n2 k : ℕ) : Type 0 where
+  pub counts : Counts n1 n2 k
+  pub first : length t1 ≡ n1 * k
+  pub second : length t2 ≡ n2 * k
+
 -- "lengths first (10)": each table is flat, row after row
 pub record TableSizes (t1 t2 tab : List ℕ) (n1 n2 k : ℕ) : Type 0 where
   pub first : length t1 ≡ n1 * k

@@ -1,4 +1,4 @@
-// The functions of `pieces` over the corners and the edges of a cube by value: its callers lend nothing.
+// The tests of a cube's corners and edges, apart from `cubie` so that an edit of them checks a small crate.
 #![tactic(auto)]
 
 pub mod inner;

@@ -16,6 +16,7 @@ pub fn slice_to_index(cp: &[u8]) -> usize
     let mut index: usize = 0;
     for i in 0..len {
         index *= len - i;
+        // by an index: `cp[i + 1..].iter().filter(..).count()` took twice the time, over both blocks of tables a third more
         for j in i + 1..len {
             if cp[i] > cp[j] {
                 index += 1;
@@ -30,12 +31,10 @@ fn raise(s: &mut [u8], d: u8)
     requires { Under 255 s.old }
     ensures { s.new ≡ map (bump d) s.old }
 {
-    let mut j = 0;
-    while j < s.len() {
-        if d <= s[j] {
-            s[j] += 1;
+    for x in s.iter_mut() {
+        if d <= *x {
+            *x += 1;
         }
-        j += 1;
     }
 }
 
@@ -46,9 +45,7 @@ pub fn fill_perm_slice(s: &mut [u8], base: u8, index: usize)
 {
     let n = s.len();
     let mut rest = index;
-    let mut i = n;
-    while 0 < i {
-        i -= 1;
+    for i in (0..n).rev() {
         let d = base + (rest % (n - i)) as u8;
         rest /= n - i;
         s[i] = d;

@@ -9,21 +9,21 @@ use Rattle.phase2_steps.specs.Rules.{phase1, Coords, At, at, Below, below_of, An
 use Rattle.phase2_steps.proofs.Facts.{below-is}
 use Rattle.phase1_steps.specs.First.{of1, turned1, Leaves1, Gives1}
 use Rattle.phase1_steps.specs.declared.Phase1State.{Phase1State}
-use Rattle.phase1_steps.specs.declared.Turned.TheVariants.{To, Refused}
+use Rattle.std.proofs.Common.{Some, None}
 
 -- ---- a turn that was refused, and one that was not
 
-pub was-refused1 : (b : Bool) (y : Coords) (m : ℕ) → Refused ≡ turned1 b y m → b ≡ false
+pub was-refused1 : (b : Bool) (y : Coords) (m : ℕ) → None ≡ turned1 b y m → b ≡ false
 unfolding turned1
 was-refused1 true y m e = cc
 was-refused1 false y m e = refl
 
-pub was-made1 : (b : Bool) (y : Coords) (m : ℕ) (z : Phase1State) → To z ≡ turned1 b y m → (b ≡ true) × (of1 z ≡ y) × (z.last ≡ m)
+pub was-made1 : (b : Bool) (y : Coords) (m : ℕ) (z : Phase1State) → Some z ≡ turned1 b y m → (b ≡ true) × (of1 z ≡ y) × (z.last ≡ m)
 unfolding turned1
 was-made1 true y m z e = (refl, cc, cc)
 was-made1 false y m z e = (cc, cc, cc)
 
-pub made-below1 : (y : Coords) (m : ℕ) (z : Phase1State) → To z ≡ turned1 (below_of phase1 y) y m → Below phase1 (of1 z)
+pub made-below1 : (y : Coords) (m : ℕ) (z : Phase1State) → Some z ≡ turned1 (below_of phase1 y) y m → Below phase1 (of1 z)
 made-below1 y m z e = subst (Below phase1) (sym (was-made1 _ y m z e).1) (below-is phase1 y (was-made1 _ y m z e).0)
 
 -- ---- what phase 1 leaves in the two paths

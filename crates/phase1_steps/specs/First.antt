@@ -1,6 +1,6 @@
 -- Phase 1: a position as the code has it, its tables in the blocks, and the search; phase 2 is what happens at an end of it.
 -- Assumes nothing: these are definitions.
-use Rattle.std.specs.Prelude.{ℕ, ◌+◌, ◌-◌, ◌≡◌, Bool, true, false, ◌&&◌, List, [], length, ltb, leb}
+use Rattle.std.specs.Prelude.{ℕ, ◌+◌, ◌-◌, ◌≡◌, Bool, true, false, ◌&&◌, List, [], length, ltb, leb, Option, Some, None}
 use Rattle.base.specs.Search.{Res, still, done, Rules, branch, deepen, enter}
 use Rattle.cubie.specs.Cube.{apply_moves}
 use Rattle.cubie.specs.declared.CubieCube.{CubieCube}
@@ -13,8 +13,6 @@ use Rattle.phase2_steps.specs.Rules.{Turns, Fars, Coords, At, at, Ans, solved, n
 use Rattle.phase2_steps.specs.Paths.{Stored, word_of}
 use Rattle.phase2_steps.specs.Second.{turns2, fars2, coords2, run2}
 use Rattle.phase1_steps.specs.declared.Phase1State.{Phase1State}
-use Rattle.phase1_steps.specs.declared.Turned.{Turned}
-use Rattle.phase1_steps.specs.declared.Turned.TheVariants.{To, Refused}
 
 -- tables 0, 1 and 2, and tables 6 and 7, in their blocks
 unfoldable pub turns1 : List ℕ → Turns
@@ -36,9 +34,9 @@ abbrev pub coords1 : CubieCube → Coords
 coords1 c = record { a = coordinate co c; b = coordinate eo c; c = coordinate e_combo c }
 
 -- what a turn by the move m answers: the test is whether the entries are below their counts
-unfoldable pub turned1 : Bool → Coords → ℕ → Turned
-turned1 true y m = To (record { co = record { 0 = y.a }; eo = record { 0 = y.b }; e = record { 0 = y.c }; last = m })
-turned1 false y m = Refused
+unfoldable pub turned1 : Bool → Coords → ℕ → Option Phase1State
+turned1 true y m = Some (record { co = record { 0 = y.a }; eo = record { 0 = y.b }; e = record { 0 = y.c }; last = m })
+turned1 false y m = None
 
 -- an answer, with what it found put otherwise
 unfoldable pub under : {L K S : Type 0} → (L → K) → Res (Ans L) S → Res (Ans K) S

@@ -13,10 +13,3 @@ pub struct Phase1State {
     pub e: ECombo,
     pub last: u8,
 }
-
-// The position after a move, or an entry of a table that is not below its coordinate's count.
-#[derive(Clone, Copy)]
-pub enum Turned {
-    To(Phase1State),
-    Refused,
-}

@@ -14,7 +14,7 @@ use Rattle.phase2_steps.specs.Rules.{Shape, phase2, Coords, Below, below_of, cut
 use Rattle.phase2_steps.specs.Paths.{Holds, word_of}
 use Rattle.phase2_steps.specs.Second.{turns2, fars2, of2, turned2, Leaves2, Gives2}
 use Rattle.phase2_steps.specs.declared.Phase2State.{Phase2State}
-use Rattle.phase2_steps.specs.declared.Turned.TheVariants.{To, Refused}
+use Rattle.std.proofs.Common.{Some, None}
 use Rattle.phase2_steps.proofs.Path.{held-length, held-stored}
 
 -- ---- an entry of a table is the block's, behind the place where the table begins
@@ -94,17 +94,17 @@ pub turns_as : {A : Type 0} (sh : Shape) (f : Bool → Coords → ℕ → A) {z 
 turns_as sh f m e b = λ i. f (sym (ap (below_of sh) e ∙ b) i) (sym e i) m
 
 -- a turn that was refused, and one that was not
-pub was-refused2 : (b : Bool) (y : Coords) (m : ℕ) → Refused ≡ turned2 b y m → b ≡ false
+pub was-refused2 : (b : Bool) (y : Coords) (m : ℕ) → None ≡ turned2 b y m → b ≡ false
 unfolding turned2
 was-refused2 true y m e = cc
 was-refused2 false y m e = refl
 
-pub was-made2 : (b : Bool) (y : Coords) (m : ℕ) (z : Phase2State) → To z ≡ turned2 b y m → (b ≡ true) × (of2 z ≡ y) × (z.last ≡ m)
+pub was-made2 : (b : Bool) (y : Coords) (m : ℕ) (z : Phase2State) → Some z ≡ turned2 b y m → (b ≡ true) × (of2 z ≡ y) × (z.last ≡ m)
 unfolding turned2
 was-made2 true y m z e = (refl, cc, cc)
 was-made2 false y m z e = (cc, cc, cc)
 
-pub made-below2 : (y : Coords) (m : ℕ) (z : Phase2State) → To z ≡ turned2 (below_of phase2 y) y m → Below phase2 (of2 z)
+pub made-below2 : (y : Coords) (m : ℕ) (z : Phase2State) → Some z ≡ turned2 (below_of phase2 y) y m → Below phase2 (of2 z)
 made-below2 y m z e = subst (Below phase2) (sym (was-made2 _ y m z e).1) (below-is phase2 y (was-made2 _ y m z e).0)
 
 -- ---- words

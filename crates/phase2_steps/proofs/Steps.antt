@@ -10,7 +10,7 @@ use lib.Dec.{ltb, lit≤}
 use lib.ListN.{take, set}
 use borrow.Author.Tests.{lt-ltb, le-ltb, ltb-true}
 use Rattle.base.specs.Lists.{range}
-use Rattle.base.specs.Search.{Res, still, done, Rules, enter, walk, walk_over, left_of}
+use Rattle.base.specs.Search.{Res, still, done, Rules, enter, walk_over, left_of}
 use Rattle.base.proofs.Product.{range-under}
 use Rattle.base.proofs.Search.{enter-stop, enter-finish, enter-leave, enter-cut, enter-walk, over-refuse, over-open, over_done, walk-keep}
 use Rattle.base.proofs.Budget.{enter-spends}

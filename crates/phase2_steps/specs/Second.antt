@@ -1,5 +1,5 @@
 -- Phase 2: a position as the code has it, its tables in the blocks, and the search. Assumes nothing: these are definitions.
-use Rattle.std.specs.Prelude.{ℕ, ◌≡◌, Bool, true, false, List, []}
+use Rattle.std.specs.Prelude.{ℕ, ◌≡◌, Bool, true, false, List, [], Option, Some, None}
 use Rattle.base.specs.Search.{Res, still, done, Rules, enter}
 use Rattle.cubie.specs.declared.CubieCube.{CubieCube}
 use Rattle.numbering.specs.Kinds.{cp, ud_ep, e_ep, coordinate}
@@ -7,8 +7,6 @@ use Rattle.pruning_table.specs.Check.{part}
 use Rattle.phase2_steps.specs.Rules.{Turns, Fars, Coords, At, at, Ans, solved, nothing, spent, refused, phase2, rules}
 use Rattle.phase2_steps.specs.Paths.{Stored, word_of}
 use Rattle.phase2_steps.specs.declared.Phase2State.{Phase2State}
-use Rattle.phase2_steps.specs.declared.Turned.{Turned}
-use Rattle.phase2_steps.specs.declared.Turned.TheVariants.{To, Refused}
 
 -- tables 3, 4 and 5, and tables 8 and 9, in their blocks
 unfoldable pub turns2 : List ℕ → Turns
@@ -26,9 +24,9 @@ abbrev pub coords2 : CubieCube → Coords
 coords2 c = record { a = coordinate cp c; b = coordinate ud_ep c; c = coordinate e_ep c }
 
 -- what a turn by the move m answers: the test is whether the entries are below their counts
-unfoldable pub turned2 : Bool → Coords → ℕ → Turned
-turned2 true y m = To (record { cp = record { 0 = y.a }; ep = record { 0 = y.b }; e = record { 0 = y.c }; last = m })
-turned2 false y m = Refused
+unfoldable pub turned2 : Bool → Coords → ℕ → Option Phase2State
+turned2 true y m = Some (record { cp = record { 0 = y.a }; ep = record { 0 = y.b }; e = record { 0 = y.c }; last = m })
+turned2 false y m = None
 
 -- an end of phase 2 is the answer
 unfoldable pub finish2 : At → ℕ → Res (Ans (List ℕ)) ℕ

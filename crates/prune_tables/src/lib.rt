@@ -1,51 +1,41 @@
-// The four pruning tables by name, and one at any counts.
+// One pruning table by its name, and one at any counts.
 #![tactic(auto)]
 
+ghost use Rattle.move_row.specs.Tables.{table_at, columns};
 ghost use Rattle.pair_table.specs.Answers.{Outcome, AnyOutcome};
+ghost use Rattle.pruning_table.specs.Check.{prune_number, first_of, second_of, rows};
 
-use pair_table::Built;
+use pair_table::{BuildError, Pairs};
+use pruning_table::PruneTable;
 
-// A pruning table over two move tables of n1 and n2 rows and of k moves.
+// A pruning table over two move tables of any numbers of rows and moves.
 pub fn get_prune_table(
-    t1: &[u16],
-    t2: &[u16],
+    first: &[u16],
+    second: &[u16],
     table: &mut [u8],
-    n1: usize,
-    n2: usize,
-    k: usize,
-) -> Built
-    ensures { AnyOutcome t1.now t2.now n1 n2 k table.old table.new result }
+    rows1: usize,
+    rows2: usize,
+    moves: usize,
+) -> Result<(), BuildError>
+    ensures { AnyOutcome first.now second.now rows1 rows2 moves table.old table.new result }
 {
-    if !pair_table::inner::counts_fit(n1, n2, k) {
-        return Built::Length;
+    match Pairs::new(first, second, rows1, rows2, moves) {
+        Some(pairs) => pair_build::inner::get_prune_table(&pairs, table),
+        None => Err(BuildError::Length),
     }
-    pair_build::inner::get_prune_table(t1, t2, table, n1, n2, k)
 }
 
-// Table 6: the twists of the corners and the places of the middle layer's edges, by all moves.
-pub fn get_co_e_table(co: &[u16], e_combo: &[u16], table: &mut [u8]) -> Built
-    ensures { Outcome co.now e_combo.now 2187 495 18 table.old table.new result }
+// One of the four, over its two move tables.
+pub fn get_table(
+    t: PruneTable,
+    first: &[u16],
+    second: &[u16],
+    table: &mut [u8],
+) -> Result<(), BuildError>
+    ensures { Outcome first.now second.now (rows (first_of (prune_number t))) (rows (second_of (prune_number t)))
+        (columns (table_at (first_of (prune_number t)))) table.old table.new result }
 {
-    pair_build::inner::get_prune_table(co, e_combo, table, 2187, 495, 18)
-}
-
-// Table 7: the flips of the edges and the places of the middle layer's edges, by all moves.
-pub fn get_eo_e_table(eo: &[u16], e_combo: &[u16], table: &mut [u8]) -> Built
-    ensures { Outcome eo.now e_combo.now 2048 495 18 table.old table.new result }
-{
-    pair_build::inner::get_prune_table(eo, e_combo, table, 2048, 495, 18)
-}
-
-// Table 8: the order of the corners and of the middle layer's edges, by the moves of phase 2.
-pub fn get_cp_e_table(cp: &[u16], e_ep: &[u16], table: &mut [u8]) -> Built
-    ensures { Outcome cp.now e_ep.now 40320 24 10 table.old table.new result }
-{
-    pair_build::inner::get_prune_table(cp, e_ep, table, 40320, 24, 10)
-}
-
-// Table 9: the order of the other eight edges and of the middle layer's, by the moves of phase 2.
-pub fn get_ep_e_table(ep: &[u16], e_ep: &[u16], table: &mut [u8]) -> Built
-    ensures { Outcome ep.now e_ep.now 40320 24 10 table.old table.new result }
-{
-    pair_build::inner::get_prune_table(ep, e_ep, table, 40320, 24, 10)
+    let (rows1, rows2) = (t.first().rows(), t.second().rows());
+    let moves = t.first().columns();
+    get_prune_table(first, second, table, rows1, rows2, moves)
 }

@@ -1,35 +1,28 @@
 -- The builder of all four pruning tables: the scan of the six move tables, one table in its part of the block, and the tables before it.
 -- Assumes nothing.
-use mathlib.Core.Path.{◌≡◌, sym, ap, ap₂, subst, subst₂, ◌∙◌}
+use mathlib.Core.Path.{◌≡◌, refl, sym, ap, ap₂, subst, subst₂, ◌∙◌}
 use mathlib.Core.Bool.{Bool, true, false}
 use mathlib.Core.Logic.{⊎_elim, inl}
-use mathlib.Core.List.{List, ◌++◌}
-use Prim.Native.Nat.{ℕ, ◌+◌, ◌-◌, ◌*◌, ◌≤◌, ◌<◌}
-use native.Mathlib.Nat.{not-suc-le-zero, eq-or-lt_of_le}
+use mathlib.Core.List.{List, [], ◌∷◌, ◌++◌}
+use Prim.Native.Nat.{ℕ, zero, suc, ◌+◌, ◌-◌, ◌*◌, ◌≤◌, ◌<◌}
+use native.Mathlib.Nat.{eq-or-lt_of_le}
 use native.Mathlib.Omega.{arith}
 use borrow.Rule.Slice.PartMut.{put_mid, same_len_mid}
-use lib.ListN.{length, take, drop, length-take, length-drop, take-append-drop}
+use lib.ListN.{length, get_or, take, drop, length-take, length-drop, take-append-drop}
 use lib.Seq.{take_at, drop_at, drop-drop, length-take-le, take-append-le, drop-append-le, drop-append-add}
 use Rattle.base.specs.Lists.{Under}
 use Rattle.base.proofs.Perm.{less-cut}
 use Rattle.move_row.specs.Tables.{table_at, columns}
-use Rattle.pair_table.specs.Answers.{Decides, Unreached255, Layer, Outcome}
+use Rattle.pair_table.specs.Answers.{Built, Decides, Unreached255, Layer, Outcome}
+use Rattle.pruning_table.specs.declared.PruneTable.{PruneTable}
+use Rattle.pruning_table.specs.declared.PruneTable.TheVariants as table
 use Rattle.pruning_table.specs.Block.{AllBelow, Filled, Missing, Refilled}
-use Rattle.pruning_table.specs.Check.{begins_at, first_of, second_of, rows, entries, part, step_of, Blocks}
+use Rattle.pruning_table.specs.Check.{begins_at, prune_number, first_of, second_of, rows, entries, part, step_of, Blocks}
 use Rattle.pair_table.specs.Pairs.{next}
-use Rattle.pair_table.specs.declared.Built.TheVariants.{Done, Length, Entry, Unreached}
+use Rattle.pair_table.specs.declared.BuildError.TheVariants.{Length, Entry, Unreached}
+use Rattle.std.proofs.Common.{Ok, Err, is_err}
 use Rattle.pruning_table.proofs.Parts.{Spot, spot-sizes, spot-len, spot-end, spot-first, spot-second, slice1, slice2}
 use Rattle.pruning_table.proofs.Ten.{by-prune}
-
--- ---- the scan
-
-pub below_none : (moves : List ℕ) (s : ℕ) → s < 0 → Under (rows s) (part s moves)
-below_none moves s h = absurd (not-suc-le-zero h)
-
-pub below_more : (moves : List ℕ) (t : ℕ) → ((s : ℕ) → s < t → Under (rows s) (part s moves)) → Under (rows t) (part t moves)
-    → (s : ℕ) → s < t + 1 → Under (rows s) (part s moves)
-below_more moves t b u s h =
-    ⊎_elim (λ (e : s ≡ t). subst (λ (x : ℕ). Under (rows x) (part x moves)) (sym e) u) (λ (l : s < t). b s l) (eq-or-lt_of_le {n = s} {m = t} (omega arith))
 
 -- ---- a part of a list that is put in: what stands there, and what stands before it and behind it
 
@@ -139,20 +132,22 @@ module _ {t a b k n1 n2 i j p : ℕ} (s : Spot t a b k n1 n2 i j p) (moves prune
     pub none-missing : (Unreached255 ys → ⊥) → Missing t (put_mid p (p + n1 * n2 - p) prunes ys) → ⊥
     none-missing n m = n (subst Unreached255 part-is m)
 
-    pub done-fills : Outcome first second n1 n2 k lent ys Done
+    pub done-fills : Outcome first second n1 n2 k lent ys (Ok tt)
         → Refilled moves t prunes (put_mid p (p + n1 * n2 - p) prunes ys) × Decides (Missing t (put_mid p (p + n1 * n2 - p) prunes ys)) false
     done-fills o =
         (refilled (λ q h. inl (o.2 q h)), none-missing (λ (q, l, e). let h : q < n1 * n2 = omega (arith, ys-size, size_is) in omega (arith, (o.2 q h).0)))
 
-    pub unreached-fills : Outcome first second n1 n2 k lent ys Unreached
+    pub unreached-fills : Outcome first second n1 n2 k lent ys (Err Unreached)
         → Refilled moves t prunes (put_mid p (p + n1 * n2 - p) prunes ys) × Decides (Missing t (put_mid p (p + n1 * n2 - p) prunes ys)) true
     unreached-fills o = (refilled o.2, some-missing o.3)
 
-  pub no_length : {ys : List ℕ} → Outcome first second n1 n2 k lent ys Length → ⊥
-  no_length o = o.0 (spot-sizes s moves prunes w)
-
-  pub no-entry : {ys : List ℕ} → Outcome first second n1 n2 k lent ys Entry → ⊥
-  no-entry o = o.1 (under1, under2)
+  -- whatever it answered, an error says that some pair is out of reach: the lengths and the scan rule out the others
+  pub part-fills : (ys : List ℕ) → length ys ≡ length lent → (r : Built) → Outcome first second n1 n2 k lent ys r
+      → Refilled moves t prunes (put_mid p (p + n1 * n2 - p) prunes ys) × Decides (Missing t (put_mid p (p + n1 * n2 - p) prunes ys)) (is_err r)
+  part-fills ys len (Ok _) o = done-fills ys len o
+  part-fills ys len (Err Unreached) o = unreached-fills ys len o
+  part-fills ys len (Err Length) o = absurd (o.0 (spot-sizes s moves prunes w))
+  part-fills ys len (Err Entry) o = absurd (o.1 (under1, under2))
 
 -- ---- the tables before t
 
@@ -193,3 +188,29 @@ module _ (moves prunes prunes' : List ℕ) (t : ℕ) (h : t < 10) (g : 6 ≤ t) 
   pub missing-still : (b : Bool) → Decides (MissingTo prunes t) b → (Missing t prunes' → ⊥) → Decides (MissingTo prunes' (t + 1)) b
   missing-still true a n = missing-kept a
   missing-still false a n = missing-nowhere a n
+
+-- the four in their order
+abbrev pub four : List PruneTable
+four = table.CoE ∷ table.EoE ∷ table.CpE ∷ table.EpE ∷ []
+
+pub four-number : (d : PruneTable) (i : ℕ) → i < 4 → prune_number (get_or four i d) ≡ 6 + i
+four-number d zero h = refl
+four-number d (suc zero) h = refl
+four-number d (suc (suc zero)) h = refl
+four-number d (suc (suc (suc zero))) h = refl
+four-number d (suc (suc (suc (suc i)))) h = absurd (omega arith)
+
+-- the i-th of them is filled after those before it
+module _ (moves prunes prunes' : List ℕ) (i t : ℕ) (e : t ≡ 6 + i) (h : i < 4) (r : Refilled moves t prunes prunes') where
+  pub turn-filled : FilledTo moves prunes (6 + i) → FilledTo moves prunes' (6 + (i + 1))
+  turn-filled f s l g = filled_more moves prunes prunes' t (omega arith) (omega arith) r (rw e f) s (omega arith) g
+
+  pub turn-missing : Missing t prunes' → MissingTo prunes' (6 + (i + 1))
+  turn-missing m = (t, omega arith, omega arith, m)
+
+  pub turn-still : (b : Bool) → Decides (MissingTo prunes (6 + i)) b → (Missing t prunes' → ⊥) → Decides (MissingTo prunes' (6 + (i + 1))) b
+  turn-still b a n = go b (missing-still moves prunes prunes' t (omega arith) (omega arith) r b (rw e a) n)
+    where
+      go : (b : Bool) → Decides (MissingTo prunes' (t + 1)) b → Decides (MissingTo prunes' (6 + (i + 1))) b
+      go true (s, l, g, m) = (s, omega arith, g, m)
+      go false n = λ (s, l, g, m). n (s, omega arith, g, m)

@@ -14,8 +14,9 @@ use Rattle.move_row.proofs.Six.{by-table}
 use Rattle.pruning_table.specs.Block.{AllFilled, SomeMissing, AllOutcome}
 use Rattle.pruning_table.specs.Check.{first_of, entries, part, step_of, Blocks, AllTrue}
 use Rattle.pair_table.specs.Pairs.{held, Least, Known, IsTrue}
-use Rattle.pair_table.specs.declared.Built.{Built}
-use Rattle.pair_table.specs.declared.Built.TheVariants.{Done, Length, Entry, Unreached}
+use Rattle.pair_table.specs.Answers.{Built}
+use Rattle.pair_table.specs.declared.BuildError.TheVariants.{Length, Entry, Unreached}
+use Rattle.std.proofs.Common.{Ok, Err}
 use Rattle.pruning_table.proofs.Laws.{layer-one}
 use Rattle.pruning_table.proofs.Ten.{prune-within, part_length, same_step}
 
@@ -45,27 +46,27 @@ module _ (moves prunes : List ℕ) where
       (part_length t 4031685 v (lv ∙ w.four) (prune-within t h k)) (a t h k) (b t h k))
 
   -- no block is both whole and not
-  clash : (u v : List ℕ) → AllOutcome moves prunes u Done → AllOutcome moves prunes v Unreached → ⊥
+  clash : (u v : List ℕ) → AllOutcome moves prunes u (Ok tt) → AllOutcome moves prunes v (Err Unreached) → ⊥
   clash u v a b = a.4 (subst SomeMissing (sym (filled-one u v a.0 a.2 b.2 a.3 b.3)) b.4)
 
   -- the builder of all four has one answer, and leaves one block
   pub all-outcome-one : (u v : List ℕ) (x y : Built) → AllOutcome moves prunes u x → AllOutcome moves prunes v y → (x ≡ y) × (u ≡ v)
-  all-outcome-one u v Length Length a b = (refl, a.1 ∙ sym b.1)
-  all-outcome-one u v Length Entry a b = absurd (a.0 b.0)
-  all-outcome-one u v Length Done a b = absurd (a.0 b.0)
-  all-outcome-one u v Length Unreached a b = absurd (a.0 b.0)
-  all-outcome-one u v Entry Length a b = absurd (b.0 a.0)
-  all-outcome-one u v Entry Entry a b = (refl, a.2 ∙ sym b.2)
-  all-outcome-one u v Entry Done a b = absurd (a.1 b.1)
-  all-outcome-one u v Entry Unreached a b = absurd (a.1 b.1)
-  all-outcome-one u v Done Length a b = absurd (b.0 a.0)
-  all-outcome-one u v Done Entry a b = absurd (b.1 a.1)
-  all-outcome-one u v Done Done a b = (refl, filled-one u v a.0 a.2 b.2 a.3 b.3)
-  all-outcome-one u v Done Unreached a b = absurd (clash u v a b)
-  all-outcome-one u v Unreached Length a b = absurd (b.0 a.0)
-  all-outcome-one u v Unreached Entry a b = absurd (b.1 a.1)
-  all-outcome-one u v Unreached Done a b = absurd (clash v u b a)
-  all-outcome-one u v Unreached Unreached a b = (refl, filled-one u v a.0 a.2 b.2 a.3 b.3)
+  all-outcome-one u v (Err Length) (Err Length) a b = (refl, a.1 ∙ sym b.1)
+  all-outcome-one u v (Err Length) (Err Entry) a b = absurd (a.0 b.0)
+  all-outcome-one u v (Err Length) (Ok _) a b = absurd (a.0 b.0)
+  all-outcome-one u v (Err Length) (Err Unreached) a b = absurd (a.0 b.0)
+  all-outcome-one u v (Err Entry) (Err Length) a b = absurd (b.0 a.0)
+  all-outcome-one u v (Err Entry) (Err Entry) a b = (refl, a.2 ∙ sym b.2)
+  all-outcome-one u v (Err Entry) (Ok _) a b = absurd (a.1 b.1)
+  all-outcome-one u v (Err Entry) (Err Unreached) a b = absurd (a.1 b.1)
+  all-outcome-one u v (Ok _) (Err Length) a b = absurd (b.0 a.0)
+  all-outcome-one u v (Ok _) (Err Entry) a b = absurd (b.1 a.1)
+  all-outcome-one u v (Ok _) (Ok _) a b = (refl, filled-one u v a.0 a.2 b.2 a.3 b.3)
+  all-outcome-one u v (Ok _) (Err Unreached) a b = absurd (clash u v a b)
+  all-outcome-one u v (Err Unreached) (Err Length) a b = absurd (b.0 a.0)
+  all-outcome-one u v (Err Unreached) (Err Entry) a b = absurd (b.1 a.1)
+  all-outcome-one u v (Err Unreached) (Ok _) a b = absurd (clash v u b a)
+  all-outcome-one u v (Err Unreached) (Err Unreached) a b = (refl, filled-one u v a.0 a.2 b.2 a.3 b.3)
 
 -- ---- the parts of the true move tables' block
 
@@ -124,7 +125,7 @@ reached : (step : ℕ → ℕ → ℕ) (k p v : ℕ) → Known step k 254 p v �
 reached step k p v (inl a) n = a.1
 reached step k p v (inr a) n = absurd (n a.0)
 
-module _ (moves prunes prunes' : List ℕ) (e : moves ≡ move_block) (o : AllOutcome moves prunes prunes' Done) where
+module _ (moves prunes prunes' : List ℕ) (e : moves ≡ move_block) (o : AllOutcome moves prunes prunes' (Ok tt)) where
   lengths : Blocks moves prunes'
   lengths = record { six = o.0.six; four = o.2 ∙ o.0.four }
 

@@ -13,8 +13,9 @@ use Rattle.base.proofs.Digits.{under-append}
 use Rattle.pair_table.specs.Pairs.{next, held, run, Walks, Leads, IsTrue, Fine, Known}
 use Rattle.pair_table.specs.Tables.{Ready, Inverses}
 use Rattle.pair_table.specs.Answers.{Layer, Outcome, AnyOutcome}
-use Rattle.pair_table.specs.declared.Built.{Built}
-use Rattle.pair_table.specs.declared.Built.TheVariants.{Done, Length, Entry, Unreached}
+use Rattle.pair_table.specs.Answers.{Built}
+use Rattle.pair_table.specs.declared.BuildError.TheVariants.{Length, Entry, Unreached}
+use Rattle.std.proofs.Common.{Ok, Err}
 use Rattle.pair_table.proofs.Steps.{ready-closed, ready-pos, ready-undone}
 use Rattle.pair_table.proofs.Truth.{least-one, check-law}
 
@@ -58,7 +59,7 @@ module _ (t1 t2 tab : List ℕ) (n1 n2 k : ℕ) (r : Ready t1 t2 tab n1 n2 k) (i
       check-law (next t1 t2 n2 k) k (n1 * n2) (ready-pos t1 t2 tab n1 n2 k r) (ready-closed t1 t2 tab n1 n2 k r) (ready-undone t1 t2 tab n1 n2 k r inv) (held tab)
 
 -- a table that the builder made whole is true
-pub built-true : (t1 t2 : List ℕ) (n1 n2 k : ℕ) (tab tab' : List ℕ) → Outcome t1 t2 n1 n2 k tab tab' Done → IsTrue (next t1 t2 n2 k) k (held tab') (n1 * n2)
+pub built-true : (t1 t2 : List ℕ) (n1 n2 k : ℕ) (tab tab' : List ℕ) → Outcome t1 t2 n1 n2 k tab tab' (Ok tt) → IsTrue (next t1 t2 n2 k) k (held tab') (n1 * n2)
 built-true t1 t2 n1 n2 k tab tab' o p l = (o.2 p l).1
 
 -- ---- any two results are equal
@@ -81,11 +82,11 @@ module _ (t1 t2 : List ℕ) (n1 n2 k : ℕ) (tab : List ℕ) where
   table-one u v r lu lv = layer-one (next t1 t2 n2 k) k (n1 * n2) u v (lu ∙ r.sized.pairs) (lv ∙ r.sized.pairs)
 
   -- what a whole table has
-  done-layer : (u : List ℕ) → Outcome t1 t2 n1 n2 k tab u Done → Layer (next t1 t2 n2 k) k (n1 * n2) 254 u
+  done-layer : (u : List ℕ) → Outcome t1 t2 n1 n2 k tab u (Ok tt) → Layer (next t1 t2 n2 k) k (n1 * n2) 254 u
   done-layer u o p l = inl (o.2 p l)
 
   -- no table is both whole and not
-  clash : (u v : List ℕ) → Outcome t1 t2 n1 n2 k tab u Done → Outcome t1 t2 n1 n2 k tab v Unreached → ⊥
+  clash : (u v : List ℕ) → Outcome t1 t2 n1 n2 k tab u (Ok tt) → Outcome t1 t2 n1 n2 k tab v (Err Unreached) → ⊥
   clash u v a b =
       let e : u ≡ v = table-one u v a.0 a.1 b.1 (done-layer u a) b.2 in
       let (p, l, h) = b.3 in
@@ -93,22 +94,22 @@ module _ (t1 t2 : List ℕ) (n1 n2 k : ℕ) (tab : List ℕ) where
 
   -- the builder has one answer, and leaves one table
   pub outcome-one : (u v : List ℕ) (x y : Built) → Outcome t1 t2 n1 n2 k tab u x → Outcome t1 t2 n1 n2 k tab v y → (x ≡ y) × (u ≡ v)
-  outcome-one u v Length Length a b = (refl, a.1 ∙ sym b.1)
-  outcome-one u v Length Entry a b = absurd (a.0 b.0)
-  outcome-one u v Length Done a b = absurd (a.0 b.0.sized)
-  outcome-one u v Length Unreached a b = absurd (a.0 b.0.sized)
-  outcome-one u v Entry Length a b = absurd (b.0 a.0)
-  outcome-one u v Entry Entry a b = (refl, a.2 ∙ sym b.2)
-  outcome-one u v Entry Done a b = absurd (a.1 (b.0.below1, b.0.below2))
-  outcome-one u v Entry Unreached a b = absurd (a.1 (b.0.below1, b.0.below2))
-  outcome-one u v Done Length a b = absurd (b.0 a.0.sized)
-  outcome-one u v Done Entry a b = absurd (b.1 (a.0.below1, a.0.below2))
-  outcome-one u v Done Done a b = (refl, table-one u v a.0 a.1 b.1 (done-layer u a) (done-layer v b))
-  outcome-one u v Done Unreached a b = absurd (clash u v a b)
-  outcome-one u v Unreached Length a b = absurd (b.0 a.0.sized)
-  outcome-one u v Unreached Entry a b = absurd (b.1 (a.0.below1, a.0.below2))
-  outcome-one u v Unreached Done a b = absurd (clash v u b a)
-  outcome-one u v Unreached Unreached a b = (refl, table-one u v a.0 a.1 b.1 a.2 b.2)
+  outcome-one u v (Err Length) (Err Length) a b = (refl, a.1 ∙ sym b.1)
+  outcome-one u v (Err Length) (Err Entry) a b = absurd (a.0 b.0)
+  outcome-one u v (Err Length) (Ok _) a b = absurd (a.0 b.0.sized)
+  outcome-one u v (Err Length) (Err Unreached) a b = absurd (a.0 b.0.sized)
+  outcome-one u v (Err Entry) (Err Length) a b = absurd (b.0 a.0)
+  outcome-one u v (Err Entry) (Err Entry) a b = (refl, a.2 ∙ sym b.2)
+  outcome-one u v (Err Entry) (Ok _) a b = absurd (a.1 (b.0.below1, b.0.below2))
+  outcome-one u v (Err Entry) (Err Unreached) a b = absurd (a.1 (b.0.below1, b.0.below2))
+  outcome-one u v (Ok _) (Err Length) a b = absurd (b.0 a.0.sized)
+  outcome-one u v (Ok _) (Err Entry) a b = absurd (b.1 (a.0.below1, a.0.below2))
+  outcome-one u v (Ok _) (Ok _) a b = (refl, table-one u v a.0 a.1 b.1 (done-layer u a) (done-layer v b))
+  outcome-one u v (Ok _) (Err Unreached) a b = absurd (clash u v a b)
+  outcome-one u v (Err Unreached) (Err Length) a b = absurd (b.0 a.0.sized)
+  outcome-one u v (Err Unreached) (Err Entry) a b = absurd (b.1 (a.0.below1, a.0.below2))
+  outcome-one u v (Err Unreached) (Ok _) a b = absurd (clash v u b a)
+  outcome-one u v (Err Unreached) (Err Unreached) a b = (refl, table-one u v a.0 a.1 b.1 a.2 b.2)
 
   -- so has it at any counts
   pub any-outcome-one : (u v : List ℕ) (x y : Built) → AnyOutcome t1 t2 n1 n2 k tab u x → AnyOutcome t1 t2 n1 n2 k tab v y → (x ≡ y) × (u ≡ v)

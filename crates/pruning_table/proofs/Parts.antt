@@ -5,20 +5,25 @@ use Prim.Native.Nat.{ℕ, ◌+◌, ◌-◌, ◌*◌, ◌≤◌, ◌<◌}
 use native.Mathlib.Omega.{arith}
 use lib.ListN.{take, drop, length-take, length-drop}
 use Rattle.move_row.specs.Tables.{table_at, columns}
-use Rattle.pruning_table.specs.Check.{begins_at, first_of, second_of, rows, entries, part, Blocks}
+use Rattle.pruning_table.specs.Check.{begins_at, prune_number, first_of, second_of, rows, entries, part, Blocks}
+use Rattle.pruning_table.specs.declared.PruneTable.{PruneTable}
+use Rattle.pruning_table.specs.declared.PruneTable.TheVariants as table
 use Rattle.pair_table.specs.Tables.{Counts, TableSizes}
 use Rattle.pruning_table.proofs.Ten.{by-prune, firsts, seconds, counts_of, move-entries, move-within, prune-entries, prune-within}
 
--- ---- the last of the cases of a match
+-- ---- the numbers of the four
 
-pub the-ninth : (t : ℕ) → t < 10 → 6 ≤ t → (t ≡ 6 → ⊥) → (t ≡ 7 → ⊥) → (t ≡ 8 → ⊥) → t ≡ 9
-the-ninth t h k a b c = omega arith
+pub prune_lt : (t : PruneTable) → prune_number t < 10
+prune_lt table.CoE = omega arith
+prune_lt table.EoE = omega arith
+prune_lt table.CpE = omega arith
+prune_lt table.EpE = omega arith
 
-pub second-low : (t : ℕ) → t < 10 → 6 ≤ t → t < 8 → 2 ≡ second_of t
-second-low = by-prune (λ t. t < 8 → 2 ≡ second_of t) (λ h. refl) (λ h. refl) (λ h. absurd (omega arith)) (λ h. absurd (omega arith))
-
-pub second-high : (t : ℕ) → t < 10 → 6 ≤ t → 8 ≤ t → 5 ≡ second_of t
-second-high = by-prune (λ t. 8 ≤ t → 5 ≡ second_of t) (λ h. absurd (omega arith)) (λ h. absurd (omega arith)) (λ h. refl) (λ h. refl)
+pub prune_ge : (t : PruneTable) → 6 ≤ prune_number t
+prune_ge table.CoE = omega arith
+prune_ge table.EoE = omega arith
+prune_ge table.CpE = omega arith
+prune_ge table.EpE = omega arith
 
 -- ---- the slice
 

@@ -1,11 +1,10 @@
 -- What the builder of all four pruning tables answers, and what it leaves in their block. Assumes nothing: these are definitions.
-use Rattle.std.specs.Prelude.{◌≡◌, List, ℕ, ◌≤◌, ◌<◌, length}
+use Rattle.std.specs.Prelude.{◌≡◌, List, ℕ, ◌≤◌, ◌<◌, length, Ok, Err}
 use Rattle.base.specs.Lists.{Under}
 use Rattle.move_row.specs.Tables.{table_at, columns}
-use Rattle.pair_table.specs.Answers.{Unreached255, Layer}
+use Rattle.pair_table.specs.Answers.{Built, Unreached255, Layer}
 use Rattle.pruning_table.specs.Check.{first_of, rows, entries, part, step_of, Blocks}
-use Rattle.pair_table.specs.declared.Built.{Built}
-use Rattle.pair_table.specs.declared.Built.TheVariants.{Done, Length, Entry, Unreached}
+use Rattle.pair_table.specs.declared.BuildError.TheVariants.{Length, Entry, Unreached}
 
 -- the entries of the six lent move tables are below their counts
 abbrev pub AllBelow : List ℕ → Type 0
@@ -34,9 +33,9 @@ SomeMissing prunes = (t : ℕ) × (t < 10) × (6 ≤ t) × Missing t prunes
 
 -- "lengths first (10)", "scanned first (11)", of all six before anything is written; 14 if some pair of some table is out of reach
 abbrev pub AllOutcome : List ℕ → List ℕ → List ℕ → Built → Type 0
-AllOutcome moves prunes prunes' Length = (Blocks moves prunes → ⊥) × (prunes' ≡ prunes)
-AllOutcome moves prunes prunes' Entry = Blocks moves prunes × (AllBelow moves → ⊥) × (prunes' ≡ prunes)
-AllOutcome moves prunes prunes' Done =
+AllOutcome moves prunes prunes' (Err Length) = (Blocks moves prunes → ⊥) × (prunes' ≡ prunes)
+AllOutcome moves prunes prunes' (Err Entry) = Blocks moves prunes × (AllBelow moves → ⊥) × (prunes' ≡ prunes)
+AllOutcome moves prunes prunes' (Ok _) =
     Blocks moves prunes × AllBelow moves × (length prunes' ≡ length prunes) × AllFilled moves prunes' × (SomeMissing prunes' → ⊥)
-AllOutcome moves prunes prunes' Unreached =
+AllOutcome moves prunes prunes' (Err Unreached) =
     Blocks moves prunes × AllBelow moves × (length prunes' ≡ length prunes) × AllFilled moves prunes' × SomeMissing prunes'

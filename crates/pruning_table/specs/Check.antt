@@ -3,12 +3,21 @@
 use Rattle.std.specs.Prelude.{◌≡◌, List, [], ◌∷◌, ℕ, ◌*◌, ◌≤◌, ◌<◌, length, get_or, take, drop}
 use Rattle.move_row.specs.Tables.{table_at, columns, size, true_table}
 use Rattle.pair_table.specs.Pairs.{next, held, IsTrue}
+use Rattle.pruning_table.specs.declared.PruneTable.{PruneTable}
+use Rattle.pruning_table.specs.declared.PruneTable.TheVariants as table
 
 -- ---- the layout: "Flat, row after row, in lent memory, in this order"
 
 -- where tables 0 to 5 begin in the block of move tables, and tables 6 to 9 in that of pruning tables
 abbrev pub begins_at : ℕ → ℕ
 begins_at t = get_or (0 ∷ 39366 ∷ 76230 ∷ 85140 ∷ 488340 ∷ 891540 ∷ 0 ∷ 1082565 ∷ 2096325 ∷ 3064005 ∷ []) t 0
+
+-- the number of a pruning table
+abbrev pub prune_number : PruneTable → ℕ
+prune_number table.CoE = 6
+prune_number table.EoE = 7
+prune_number table.CpE = 8
+prune_number table.EpE = 9
 
 -- the two move tables of a pruning table: 6 co_e, 7 eo_e, 8 cp_e, 9 ep_e
 abbrev pub first_of : ℕ → ℕ

@@ -13,6 +13,7 @@ use Rattle.phase1_steps.specs.First.{Leaves1}
 use Rattle.search.specs.Solve.{no_lists, answer_of, HasMoves}
 use Rattle.search.specs.declared.Found.{Found}
 use Rattle.search.specs.declared.Found.TheVariants as found
+use Rattle.refusal.specs.declared.Refusal.TheVariants as refusal
 use Rattle.search.specs.declared.Solution.{Solution}
 
 -- empty lists
@@ -33,7 +34,7 @@ abbrev empty_of : ℕ → Found
 empty_of zero = found.Nothing
 empty_of (suc zero) = found.Nothing
 empty_of (suc (suc zero)) = found.Spent
-empty_of (suc (suc (suc n))) = found.Refused 11
+empty_of (suc (suc (suc n))) = found.Refused refusal.Entry
 
 -- the parts of a word k * 2^32 + s
 high : (k s r : ℕ) → r ≡ k * 4294967296 + s → s < 4294967296 → r / 4294967296 ≡ k

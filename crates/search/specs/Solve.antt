@@ -1,7 +1,12 @@
 -- What the search answers, for all inputs. Assumes nothing: these are definitions.
-use Rattle.std.specs.Prelude.{ℕ, ◌-◌, ◌≤◌, ◌≡◌, Bool, ◌&&◌, List, ◌++◌, leb, eqb, length, replicate, take}
+use Rattle.std.specs.Prelude.{ℕ, ◌-◌, ◌≤◌, ◌≡◌, Bool, ◌&&◌, List, ◌++◌, leb, eqb, length, replicate, take, true, Result}
 use Rattle.base.specs.Lists.{pick, Under}
 use Rattle.base.specs.Search.{Res, still, done, left_of}
+use Rattle.refusal.specs.declared.Refusal.{Refusal}
+use Rattle.refusal.specs.declared.Refusal.TheVariants as refusal
+use Rattle.refusal.specs.Refusals as refusals
+use Rattle.pruning_table.specs.Check.{Blocks}
+use Rattle.cubie.specs.Answers.{solvable_refusal}
 use Rattle.cubie.specs.Cube.{refusal_of, apply_moves, is_home}
 use Rattle.cubie.specs.Solvable.{solvable}
 use Rattle.cubie.specs.declared.CubieCube.{CubieCube}
@@ -22,7 +27,7 @@ unfoldable pub answer_of : ℕ → Res (Ans (List ℕ × List ℕ)) ℕ → Solu
 answer_of budget (still s) = no_lists found.Nothing (budget - s)
 answer_of budget (done nothing s) = no_lists found.Nothing (budget - s)
 answer_of budget (done spent s) = no_lists found.Spent (budget - s)
-answer_of budget (done refused s) = no_lists (found.Refused 11) (budget - s)
+answer_of budget (done refused s) = no_lists (found.Refused refusal.Entry) (budget - s)
 answer_of budget (done (solved l) s) =
     record {
       found = found.Solved;
@@ -58,10 +63,10 @@ solves cube moves = is_home (apply_moves cube moves)
 
 -- "12 is given exactly when the first list so found doesn't solve the cube"
 abbrev pub checked_by : CubieCube → Solution → Found → Solution
-checked_by cube s found.Solved = pick (solves cube (first_list s ++ second_list s)) s (no_lists (found.Refused 12) s.count)
+checked_by cube s found.Solved = pick (solves cube (first_list s ++ second_list s)) s (no_lists (found.Refused refusal.LastCheck) s.count)
 checked_by cube s found.Nothing = s
 checked_by cube s found.Spent = s
-checked_by cube s (found.Refused n) = s
+checked_by cube s (found.Refused r) = s
 
 unfoldable pub checked : CubieCube → Solution → Solution
 checked cube s = checked_by cube s s.found
@@ -72,14 +77,26 @@ searched cube limit budget moves prunes =
     checked cube (answer_of budget (table_solve (turns1 moves) (fars1 prunes) (turns2 moves) (fars2 prunes) cube limit (coords1 cube) budget))
 
 -- 4, 5 or 6 for a cube out of range, 6 for one that isn't solvable, 0 for one to search
-unfoldable pub search_refusal : CubieCube → ℕ
-search_refusal cube = pick (eqb (refusal_of cube) 0) (pick (solvable cube) 0 6) (refusal_of cube)
+abbrev pub search_refusal : CubieCube → ℕ
+search_refusal = solvable_refusal
 
--- "Searching tests 9, then 10, then 4, 5, 6, and 11 or 12 as the search meets them"; the count is "0 for refusals before the search"
+-- "Searching tests 9, then 10, then 4, 5, 6"
+unfoldable pub before_search : CubieCube → ℕ → List ℕ → List ℕ → ℕ
+before_search cube limit moves prunes =
+    pick (leb limit 31) (pick (eqb (length moves) 891780 && eqb (length prunes) 4031685) (search_refusal cube) 10) 9
+
+abbrev pub checked_search : CubieCube → ℕ → List ℕ → List ℕ → Result (Unit {0}) Refusal
+checked_search cube limit moves prunes = refusals.checked (before_search cube limit moves prunes)
+
+-- what is searched
+pub record Searchable (cube : CubieCube) (limit : ℕ) (moves prunes : List ℕ) : Type 0 where
+  pub range : refusal_of cube ≡ 0
+  pub solvable : Rattle.cubie.specs.Solvable.solvable cube ≡ true
+  pub few : limit ≤ 31
+  pub blocks : Blocks moves prunes
+
+-- "and 11 or 12 as the search meets them"; the count is "0 for refusals before the search"
 unfoldable pub solve_of : CubieCube → ℕ → ℕ → List ℕ → List ℕ → Solution
 solve_of cube limit budget moves prunes =
-    pick (leb limit 31)
-    (pick (eqb (length moves) 891780 && eqb (length prunes) 4031685)
-    (pick (eqb (search_refusal cube) 0) (searched cube limit budget moves prunes) (no_lists (found.Refused (search_refusal cube)) 0))
-    (no_lists (found.Refused 10) 0))
-    (no_lists (found.Refused 9) 0)
+    pick (eqb (before_search cube limit moves prunes) 0) (searched cube limit budget moves prunes)
+    (no_lists (found.Refused (refusals.named (before_search cube limit moves prunes))) 0)

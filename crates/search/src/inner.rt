@@ -2,7 +2,6 @@
 ghost use Rattle.std.specs.Prelude.{◌≡◌, true, ◌≤◌, ◌%◌};
 ghost use Rattle.cubie.specs.Cube.{refusal_of, cube_of};
 ghost use Rattle.cubie.specs.Solvable.{solvable};
-ghost use Rattle.pruning_table.specs.Check.{Blocks};
 ghost use Rattle.phase2_steps.specs.Second.{turns2, fars2};
 ghost use Rattle.phase1_steps.specs.First.{turns1, fars1, coords1, table_solve};
 ghost use Rattle.search.specs.Solve.{no_lists, answer_of, HasMoves, ReadOff};
@@ -12,6 +11,9 @@ use cube_bytes::inner::put_cube;
 use cubie::CubieCube;
 use phase1::inner::solve_phase1;
 use phase1_steps::inner::phase1_state;
+use phase2_steps::{HIGH, NOTHING, REFUSED, SOLVED, SPENT};
+use pruning_table::Tables;
+use refusal::Refusal;
 
 // An answer with empty lists.
 pub fn no_lists(found: Found, count: u32) -> Solution
@@ -32,24 +34,20 @@ fn read_word(word: u64, budget: u32, d: usize, one: [u8; 31], two: [u8; 31]) -> 
     requires { (4294967296 ≤ word) × (word % 4294967296 ≤ budget) × (d ≤ 31) }
     ensures { ReadOff budget word d one two result }
 {
-    let out = word / 4294967296;
-    let count = budget - ((word % 4294967296) as u32);
-    if out == 1 {
-        return no_lists(Found::Nothing, count);
-    }
-    if out == 2 {
-        return no_lists(Found::Spent, count);
-    }
-    if out == 3 {
-        return no_lists(Found::Refused(11), count);
-    }
-    Solution {
-        found: Found::Solved,
-        count,
-        n1: d,
-        phase1: one,
-        n2: (out - 4) as usize,
-        phase2: two,
+    let out = word / HIGH;
+    let count = budget - ((word % HIGH) as u32);
+    match out {
+        NOTHING => no_lists(Found::Nothing, count),
+        SPENT => no_lists(Found::Spent, count),
+        REFUSED => no_lists(Found::Refused(Refusal::Entry), count),
+        _ => Solution {
+            found: Found::Solved,
+            count,
+            n1: d,
+            phase1: one,
+            n2: (out - SOLVED) as usize,
+            phase2: two,
+        },
     }
 }
 
@@ -63,10 +61,9 @@ fn bytes_of(cube: CubieCube) -> [u8; 40]
 }
 
 // The search: phase-1 lengths from 0 to the limit, with at most `budget` entries into positions.
-pub fn search(cube: CubieCube, limit: usize, budget: u32, moves: &[u16], prunes: &[u8]) -> Solution
-    requires cube_value { (refusal_of cube ≡ 0) × (solvable cube ≡ true) × (limit ≤ 31) }
-    requires blocks { Blocks moves.now prunes.now }
-    ensures value { result ≡ answer_of budget (table_solve (turns1 moves.now) (fars1 prunes.now) (turns2 moves.now) (fars2 prunes.now) cube limit (coords1 cube) budget) }
+pub fn search(cube: CubieCube, limit: usize, budget: u32, tables: &Tables) -> Solution
+    requires { (refusal_of cube ≡ 0) × (solvable cube ≡ true) × (limit ≤ 31) }
+    ensures value { result ≡ answer_of budget (table_solve (turns1 tables.now.moves.now) (fars1 tables.now.prunes.now) (turns2 tables.now.moves.now) (fars2 tables.now.prunes.now) cube limit (coords1 cube) budget) }
     ensures has_moves { HasMoves result }
 {
     let bytes = bytes_of(cube);
@@ -74,16 +71,12 @@ pub fn search(cube: CubieCube, limit: usize, budget: u32, moves: &[u16], prunes:
     let mut one = [0; 31];
     let mut two = [0; 31];
     let mut rest = budget;
-    let mut d = 0;
-    while d < limit + 1 {
-        let r = solve_phase1(
-            &moves, &prunes, &bytes, limit, x, 0, &mut one, &mut two, d, rest,
-        );
-        if 4294967296 <= r {
+    for d in 0..limit + 1 {
+        let r = solve_phase1(tables, &bytes, limit, x, 0, &mut one, &mut two, d, rest);
+        if HIGH <= r {
             return read_word(r, budget, d, one, two);
         }
         rest = r as u32;
-        d += 1;
     }
     no_lists(Found::Nothing, budget - rest)
 }

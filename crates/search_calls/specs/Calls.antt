@@ -2,6 +2,7 @@
 use Rattle.std.specs.Prelude.{Bool, ◌&&◌, List, ℕ, ◌+◌, ◌*◌, leb, eqb, length}
 use Rattle.base.specs.Lists.{pick}
 use Rattle.cubie.specs.Cube.{cube_of}
+use Rattle.refusal.specs.Refusals.{number}
 use Rattle.search.specs.Solve.{solve_of}
 use Rattle.search.specs.declared.Found.{Found}
 use Rattle.search.specs.declared.Found.TheVariants as found
@@ -12,13 +13,13 @@ abbrev pub found_number : Found → ℕ
 found_number found.Solved = 0
 found_number found.Nothing = 0
 found_number found.Spent = 0
-found_number (found.Refused n) = n
+found_number (found.Refused r) = number r
 
 abbrev pub found_kind : Found → ℕ
 found_kind found.Solved = 0
 found_kind found.Nothing = 1
 found_kind found.Spent = 2
-found_kind (found.Refused n) = 0
+found_kind (found.Refused r) = 0
 
 -- the low byte is the paper's number, the next the kind, then a byte each for the lengths of the two lists; above them stands the count
 abbrev pub packed : Solution → ℕ
@@ -38,7 +39,7 @@ abbrev pub list_left : Found → List ℕ → List ℕ → List ℕ
 list_left found.Solved list before = list
 list_left found.Nothing list before = before
 list_left found.Spent list before = before
-list_left (found.Refused n) list before = before
+list_left (found.Refused r) list before = before
 
 abbrev pub first_left : List ℕ → ℕ → ℕ → List ℕ → List ℕ → List ℕ → List ℕ → List ℕ
 first_left cube limit budget moves prunes one two =

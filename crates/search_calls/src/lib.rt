@@ -6,7 +6,6 @@ ghost use Rattle.search.specs.Solve.{HasMoves};
 ghost use Rattle.search_calls.specs.Calls.{packed, solve_number, first_left, second_left};
 
 use cube_bytes::inner::cube_of;
-use pieces::inner::copy_in;
 use search::{Found, Solution};
 
 // What is returned of an answer: the number, the kind, the lengths and the count.
@@ -16,12 +15,11 @@ fn pack(s: Solution) -> u64
 {
     let lengths = 65536 * (s.n1 as u64) + 16777216 * (s.n2 as u64);
     let rest = lengths + 4294967296 * (s.count as u64);
-    let found = s.found;
-    match found {
+    match s.found {
         Found::Solved => rest,
         Found::Nothing => 256 + rest,
         Found::Spent => 512 + rest,
-        Found::Refused(n) => (n as u64) + rest,
+        Found::Refused(r) => u64::from(u8::from(r)) + rest,
     }
 }
 
@@ -43,25 +41,13 @@ pub fn solve(
     if 31 < limit {
         return 9;
     }
-    if cube.len() != 40 {
-        return 10;
-    }
-    if one.len() != 31 {
-        return 10;
-    }
-    if two.len() != 31 {
+    if cube.len() != 40 || one.len() != 31 || two.len() != 31 {
         return 10;
     }
     let s = solver::solve(cube_of(cube), limit, budget, moves, prunes);
-    let found = s.found;
-    match found {
-        Found::Solved => {
-            let phase1 = s.phase1;
-            let phase2 = s.phase2;
-            copy_in(&phase1, one, 0);
-            copy_in(&phase2, two, 0);
-            return pack(s);
-        }
-        _ => return pack(s),
+    if s.found == Found::Solved {
+        one.copy_from_slice(&s.phase1);
+        two.copy_from_slice(&s.phase2);
     }
+    pack(s)
 }

@@ -1,38 +1,35 @@
 -- Numbers that are read digit by digit. Assumes nothing.
-use mathlib.Core.Path.{◌≡◌, refl, sym, ap, ◌∙◌}
-use mathlib.Core.Bool.{◌&&◌}
-use mathlib.Core.List.{List}
-use Prim.Native.Nat.{ℕ, ◌+◌, ◌-◌, ◌*◌, ◌^◌, ◌≤◌, ◌<◌}
-use native.Mathlib.Numerals.{unary_clauses, add-one}
-use native.Mathlib.Omega.{arith}
-use lib.Dec.{leb}
-use lib.ListN.{length, get_or, drop, drop_of_length-le}
+use Rattle.std.proofs.Common.{arith, ◌≡◌, refl, sym, ap, ◌∙◌, Bool, true, false, ◌&&◌, List, ℕ, ◌+◌, ◌-◌, ◌*◌, ◌^◌, ◌≤◌, ◌<◌, leb, length, get_or, drop, add-one, Option, Some, None}
+use Rattle.std.proofs.Math.ListN.{drop_of_length-le}
+use native.Mathlib.Numerals.{unary_clauses}
 use borrow.Author.Tests.{eq-eqb, ne_eqb, le-leb, lt-leb, lt-ltb, leb-true}
 use Rattle.base.specs.Lists.{pick}
 use Rattle.base.proofs.Steps.{next}
 use Rattle.base.proofs.Tests.{below_true}
-use Rattle.solution.specs.Request.{all_digits, is_number, value_from, no_number, amount_of}
+use Rattle.solution.specs.Request.{all_digits, is_number, value_from, amount_of}
 
 -- what the bytes s tell behind digits of value a
-unfoldable pub read_from : ℕ → List ℕ → ℕ
-read_from a s = pick (all_digits s) (value_from a s) no_number
+unfoldable pub read_from : ℕ → List ℕ → Option ℕ
+read_from a s = pick (all_digits s) (Some (value_from a s)) None
 
 module _ (s : List ℕ) (i a : ℕ) (h : i < length s) where
-  read_at : read_from a (drop i s) ≡ pick (leb 48 (get_or s i 0) && (leb (get_or s i 0) 57 && all_digits (drop (i + 1) s))) (value_from (10 * a + (get_or s i 0 - 48)) (drop (i + 1) s)) no_number
+  read_at : read_from a (drop i s) ≡ pick (leb 48 (get_or s i 0) && (leb (get_or s i 0) 57 && all_digits (drop (i + 1) s))) (Some (value_from (10 * a + (get_or s i 0 - 48)) (drop (i + 1) s))) None
   unfolding read_from all_digits value_from
   read_at = ap (read_from a) (next s i h)
 
-  pub read_low : get_or s i 0 < 48 → no_number ≡ read_from a (drop i s)
-  read_low l = sym (read_at ∙ rw (lt-leb 48 (get_or s i 0) l))
-
-  pub read-high : 48 ≤ get_or s i 0 → 57 < get_or s i 0 → no_number ≡ read_from a (drop i s)
-  read-high k l = sym (read_at ∙ rw (le-leb 48 (get_or s i 0) k, lt-leb (get_or s i 0) 57 l))
+  pub read-other : (leb 48 (get_or s i 0) && leb (get_or s i 0) 57) ≡ false → None ≡ read_from a (drop i s)
+  read-other e = sym (read_at ∙ go (leb 48 (get_or s i 0)) (leb (get_or s i 0) 57) (all_digits (drop (i + 1) s)) (Some (value_from (10 * a + (get_or s i 0 - 48)) (drop (i + 1) s))) e)
+    where
+      go : (p q r : Bool) (v : Option ℕ) → (p && q) ≡ false → pick (p && (q && r)) v None ≡ None
+      go true true r v e = cc
+      go true false r v e = refl
+      go false q r v e = refl
 
   pub read-digit : 48 ≤ get_or s i 0 → get_or s i 0 ≤ 57 → read_from (10 * a + (get_or s i 0 - 48)) (drop (i + 1) s) ≡ read_from a (drop i s)
   unfolding read_from
   read-digit k l = sym (read_at ∙ rw (le-leb 48 (get_or s i 0) k, le-leb (get_or s i 0) 57 l))
 
-pub read-end : (s : List ℕ) (i a : ℕ) → length s ≤ i → a ≡ read_from a (drop i s)
+pub read-end : (s : List ℕ) (i a : ℕ) → length s ≤ i → Some a ≡ read_from a (drop i s)
 unfolding read_from all_digits value_from
 read-end s i a h = sym (ap (read_from a) (drop_of_length-le s h))
 
@@ -46,11 +43,11 @@ value-fits v i h l = let p : 10 ^ i ≤ 1000000000 = leb-true _ _ (below_true (�
 -- ---- an amount
 
 module _ (usual : ℕ) (s : List ℕ) where
-  pub amount-usual : length s ≡ 0 → usual ≡ amount_of usual s
+  pub amount-usual : length s ≡ 0 → Some usual ≡ amount_of usual s
   unfolding amount_of
   amount-usual e = rw (eq-eqb (length s) 0 e)
 
-  pub amount-long : 10 < length s → no_number ≡ amount_of usual s
+  pub amount-long : 10 < length s → None ≡ amount_of usual s
   unfolding amount_of is_number
   amount-long h =
       let n : length s ≡ 0 → ⊥ = λ e. omega (arith, e, h) in

@@ -1,60 +1,77 @@
 -- Which text is printed, by cases. Assumes nothing.
-use mathlib.Core.Path.{◌≡◌}
-use mathlib.Core.Bool.{true, false}
-use mathlib.Core.List.{List}
-use Prim.Native.Nat.{ℕ, ◌+◌, ◌≤◌, ◌<◌}
-use native.Mathlib.Omega.{arith}
-use lib.Dec.{eqb}
-use lib.ListN.{length, length-drop}
+use Rattle.std.proofs.Common.{arith, ◌≡◌, refl, true, false, List, ℕ, ◌+◌, ◌≤◌, ◌<◌, eqb, length, length-drop, Some, None, Result, Ok, Err, sym, ◌∙◌}
 use borrow.Author.Tests.{eq-eqb, ne_eqb, le-leb, lt-leb}
 use Rattle.cubie.specs.declared.CubieCube.{CubieCube}
-use Rattle.stickers.specs.Reader.{all_colors, cube_read, strict_refusal}
+use Rattle.refusal.specs.declared.Refusal.{Refusal}
+use Rattle.refusal.specs.Refusals.{number}
+use Rattle.refusal.proofs.Laws.{passes, told}
+use Rattle.stickers.specs.Reader.{all_colors, cube_read, strict_refusal, read_strict}
+use Rattle.stickers.proofs.Refusals.{strict-le}
 use Rattle.lines.specs.Lines.{index_of, first_line, after_line, line, refused_word}
 use Rattle.search.specs.Solve.{solve_of}
 use Rattle.solution.specs.Drawing.{drawing, drawn_text, net_text}
 use Rattle.solution.specs.Request.{amount_of, bad_budget_line, bad_input_line, budget_text, limit_text, request_text, solution_text}
 use Rattle.solution.specs.Text.{answer_text}
 
+-- the number of what the strict reader refuses
+told-strict : (t : List ℕ) (r : Refusal) → read_strict t ≡ Err r → (strict_refusal t ≡ 0 → ⊥) × (strict_refusal t ≡ number r)
+told-strict t r e = (λ z. go (sym (passes (strict_refusal t) (cube_read t) z) ∙ e), sym (told (strict_refusal t) r (cube_read t) (omega (arith, strict-le t)) e))
+  where
+    go : ◌≡◌ {A = Result CubieCube Refusal} (Ok (cube_read t)) (Err r) → ⊥
+    go q = cc
+
 -- ---- the turns
 
 module _ (cube : CubieCube) (limit : ℕ) (t moves prunes : List ℕ) where
-  pub budget-bad : 4294967295 < amount_of 1000000000 (first_line t) → budget_text cube limit t moves prunes ≡ bad_budget_line
+  pub budget-none : amount_of 1000000000 (first_line t) ≡ None → budget_text cube limit t moves prunes ≡ bad_budget_line
   unfolding budget_text
-  budget-bad h = rw (lt-leb (amount_of 1000000000 (first_line t)) 4294967295 h)
+  budget-none e = rw e refl
 
-  pub budget-more : amount_of 1000000000 (first_line t) ≤ 4294967295 → index_of 10 t + 1 < length t → budget_text cube limit t moves prunes ≡ bad_input_line
-  unfolding budget_text
-  budget-more h k =
-      let n : length (after_line t) ≡ 0 → ⊥ = λ e. omega (arith, e, k, length-drop (index_of 10 t + 1) t) in
-      rw (le-leb (amount_of 1000000000 (first_line t)) 4294967295 h, ne_eqb (length (after_line t)) 0 n)
+  module _ (n : ℕ) (e : amount_of 1000000000 (first_line t) ≡ Some n) where
+    pub budget-bad : 4294967295 < n → budget_text cube limit t moves prunes ≡ bad_budget_line
+    unfolding budget_text
+    budget-bad h = rw (e, lt-leb n 4294967295 h) refl
 
-  pub budget-good : amount_of 1000000000 (first_line t) ≤ 4294967295 → length t ≤ index_of 10 t + 1 → budget_text cube limit t moves prunes ≡ answer_text (solve_of cube limit (amount_of 1000000000 (first_line t)) moves prunes)
-  unfolding budget_text
-  budget-good h k =
-      let n : length (after_line t) ≡ 0 = omega (arith, k, length-drop (index_of 10 t + 1) t) in
-      rw (le-leb (amount_of 1000000000 (first_line t)) 4294967295 h, eq-eqb (length (after_line t)) 0 n)
+    pub budget-more : n ≤ 4294967295 → index_of 10 t + 1 < length t → budget_text cube limit t moves prunes ≡ bad_input_line
+    unfolding budget_text
+    budget-more h k =
+        let more : length (after_line t) ≡ 0 → ⊥ = λ z. omega (arith, z, k, length-drop (index_of 10 t + 1) t) in
+        rw (e, le-leb n 4294967295 h, ne_eqb (length (after_line t)) 0 more) refl
+
+    pub budget-good : n ≤ 4294967295 → length t ≤ index_of 10 t + 1 → budget_text cube limit t moves prunes ≡ answer_text (solve_of cube limit n moves prunes)
+    unfolding budget_text
+    budget-good h k =
+        let end : length (after_line t) ≡ 0 = omega (arith, k, length-drop (index_of 10 t + 1) t) in
+        rw (e, le-leb n 4294967295 h, eq-eqb (length (after_line t)) 0 end) refl
 
 module _ (cube : CubieCube) (t moves prunes : List ℕ) where
-  pub limit-bad : 31 < amount_of 23 (first_line t) → limit_text cube t moves prunes ≡ line refused_word 9
+  pub limit-none : amount_of 23 (first_line t) ≡ None → limit_text cube t moves prunes ≡ line refused_word 9
   unfolding limit_text
-  limit-bad h = rw (lt-leb (amount_of 23 (first_line t)) 31 h)
+  limit-none e = rw e refl
 
-  pub limit-good : amount_of 23 (first_line t) ≤ 31 → limit_text cube t moves prunes ≡ budget_text cube (amount_of 23 (first_line t)) (after_line t) moves prunes
-  unfolding limit_text
-  limit-good h = rw (le-leb (amount_of 23 (first_line t)) 31 h)
+  module _ (n : ℕ) (e : amount_of 23 (first_line t) ≡ Some n) where
+    pub limit-bad : 31 < n → limit_text cube t moves prunes ≡ line refused_word 9
+    unfolding limit_text
+    limit-bad h = rw (e, lt-leb n 31 h) refl
+
+    pub limit-good : n ≤ 31 → limit_text cube t moves prunes ≡ budget_text cube n (after_line t) moves prunes
+    unfolding limit_text
+    limit-good h = rw (e, le-leb n 31 h) refl
 
 module _ (s moves prunes : List ℕ) where
   pub solution-long : 1024 < length s → solution_text s moves prunes ≡ line refused_word 10
   unfolding solution_text
   solution-long h = rw (lt-leb (length s) 1024 h)
 
-  pub solution-refused : length s ≤ 1024 → eqb (strict_refusal (first_line s)) 0 ≡ false → solution_text s moves prunes ≡ line refused_word (strict_refusal (first_line s))
+  pub solution-refused : (r : Refusal) → length s ≤ 1024 → read_strict (first_line s) ≡ Err r → solution_text s moves prunes ≡ line refused_word (number r)
   unfolding solution_text request_text
-  solution-refused h e = rw (le-leb (length s) 1024 h, e)
+  solution-refused r h e =
+      let z = told-strict (first_line s) r e in
+      rw (le-leb (length s) 1024 h, ne_eqb (strict_refusal (first_line s)) 0 z.0, z.1) refl
 
   pub solution-good : length s ≤ 1024 → strict_refusal (first_line s) ≡ 0 → solution_text s moves prunes ≡ limit_text (cube_read (first_line s)) (after_line s) moves prunes
   unfolding solution_text request_text
-  solution-good h e = rw (le-leb (length s) 1024 h, eq-eqb (strict_refusal (first_line s)) 0 e)
+  solution-good h e = rw (le-leb (length s) 1024 h, eq-eqb (strict_refusal (first_line s)) 0 e) refl
 
 -- ---- the drawing
 

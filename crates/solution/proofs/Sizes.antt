@@ -6,6 +6,8 @@ use native.Mathlib.Omega.{arith}
 use lib.ListN.{length, replicate, length-append}
 use Rattle.lines.specs.Lines.{decimal, line, refused_word, moves_word, strokes_word}
 use Rattle.lines.proofs.Written.{digits_le, line-length}
+use Rattle.refusal.specs.declared.Refusal.{Refusal}
+use Rattle.refusal.specs.Refusals.{number}
 use Rattle.words.specs.Answers.{over}
 use Rattle.words.specs.Strokes.{strokes_of}
 use Rattle.words.specs.Text.{word_of, spaced}
@@ -99,6 +101,6 @@ module _ (s : Solution) where
   unfolding answer_text
   answer-spent e = ap (found_text s) e
 
-  pub answer-refused : (n : ℕ) → s.found ≡ found.Refused n → answer_text s ≡ line refused_word n
+  pub answer-refused : (r : Refusal) → s.found ≡ found.Refused r → answer_text s ≡ line refused_word (number r)
   unfolding answer_text
-  answer-refused n e = ap (found_text s) e
+  answer-refused r e = ap (found_text s) e

@@ -1,6 +1,6 @@
 -- What is asked of the search, and the bytes that are printed, as a function of the bytes that were read and the two table blocks.
 -- The lines are stickers, limit and budget; limit and budget may be missing. Assumes nothing: these are definitions.
-use Rattle.std.specs.Prelude.{Bool, true, ◌&&◌, List, [], ◌∷◌, ℕ, ◌+◌, ◌-◌, ◌*◌, eqb, ltb, leb, length}
+use Rattle.std.specs.Prelude.{Bool, true, ◌&&◌, List, [], ◌∷◌, ℕ, ◌+◌, ◌-◌, ◌*◌, eqb, ltb, leb, length, Option, Some, None}
 use Rattle.base.specs.Lists.{pick}
 use Rattle.cubie.specs.declared.CubieCube.{CubieCube}
 use Rattle.stickers.specs.Reader.{cube_read, strict_refusal}
@@ -24,13 +24,14 @@ unfoldable pub value_from : ℕ → List ℕ → ℕ
 value_from a [] = a
 value_from a (c ∷ s) = value_from (10 * a + (c - 48)) s
 
--- decided: what stands for a line that is no number, above all that ten digits tell
-abbrev pub no_number : ℕ
-no_number = 10000000000
+-- decided: an empty or missing line is the usual number; one that is no number is none
+unfoldable pub amount_of : ℕ → List ℕ → Option ℕ
+amount_of usual s = pick (eqb (length s) 0) (Some usual) (pick (is_number s) (Some (value_from 0 s)) None)
 
--- decided: an empty or missing line is the usual number
-unfoldable pub amount_of : ℕ → List ℕ → ℕ
-amount_of usual s = pick (eqb (length s) 0) usual (pick (is_number s) (value_from 0 s) no_number)
+-- a text for a number up to a bound, and another for a greater one and for none
+abbrev pub up_to : ℕ → Option ℕ → (ℕ → List ℕ) → List ℕ → List ℕ
+up_to most (Some n) text otherwise = pick (leb n most) (text n) otherwise
+up_to most None text otherwise = otherwise
 
 -- ---- the three lines
 
@@ -44,14 +45,14 @@ bad_input_line = 98 ∷ 97 ∷ 100 ∷ 32 ∷ 105 ∷ 110 ∷ 112 ∷ 117 ∷ 11
 -- decided: the third line is the budget, 1,000,000,000 if empty or missing; above 32 bits, or no number, is a bad budget; then anything behind the third line is bad input
 unfoldable pub budget_text : CubieCube → ℕ → List ℕ → List ℕ → List ℕ → List ℕ
 budget_text cube limit t moves prunes =
-    pick (leb (amount_of 1000000000 (first_line t)) 4294967295)
-    (pick (eqb (length (after_line t)) 0) (answer_text (solve_of cube limit (amount_of 1000000000 (first_line t)) moves prunes)) bad_input_line)
+    up_to 4294967295 (amount_of 1000000000 (first_line t))
+    (λ budget. pick (eqb (length (after_line t)) 0) (answer_text (solve_of cube limit budget moves prunes)) bad_input_line)
     bad_budget_line
 
 -- decided: the second line is the limit, 23 if empty or missing; "limit above 31", or no number, is 9
 unfoldable pub limit_text : CubieCube → List ℕ → List ℕ → List ℕ → List ℕ
 limit_text cube t moves prunes =
-    pick (leb (amount_of 23 (first_line t)) 31) (budget_text cube (amount_of 23 (first_line t)) (after_line t) moves prunes) (line refused_word 9)
+    up_to 31 (amount_of 23 (first_line t)) (λ limit. budget_text cube limit (after_line t) moves prunes) (line refused_word 9)
 
 -- decided, as for the moves judged: the first line is read strictly, and its refusal comes first
 unfoldable pub request_text : List ℕ → List ℕ → List ℕ → List ℕ

@@ -1,6 +1,7 @@
 -- What is printed of an answer of the search. LF is 10. Assumes nothing: these are definitions.
 use Rattle.std.specs.Prelude.{List, [], ◌∷◌, ◌++◌, map, ℕ, length, replicate}
 use Rattle.lines.specs.Lines.{line, refused_word, moves_word, strokes_word}
+use Rattle.refusal.specs.Refusals.{number}
 use Rattle.words.specs.Answers.{over}
 use Rattle.words.specs.Strokes.{strokes_of}
 use Rattle.words.specs.Text.{word_of, spaced}
@@ -48,7 +49,7 @@ abbrev pub found_text : Solution → Found → List ℕ
 found_text s found.Solved = solved_text (first_list s) (second_list s) s.count
 found_text s found.Nothing = none_line
 found_text s found.Spent = spent_line
-found_text s (found.Refused n) = line refused_word n
+found_text s (found.Refused r) = line refused_word (number r)
 
 unfoldable pub answer_text : Solution → List ℕ
 answer_text s = found_text s s.found

@@ -4,6 +4,7 @@
 ghost use Rattle.std.specs.Prelude.{◌≡◌, ◌-◌, ◌≤◌, ◌<◌, ◌+◌, ltb, length, get_or};
 ghost use Rattle.base.specs.Lists.{pick, Under};
 ghost use Rattle.lines.specs.Lines.{line, refused_word};
+ghost use Rattle.refusal.specs.Refusals.{number};
 ghost use Rattle.words.specs.Answers.{over};
 ghost use Rattle.search.specs.Solve.{HasMoves};
 ghost use Rattle.solution.specs.Drawing.{drawing, net_text};
@@ -14,7 +15,7 @@ use cubie::CubieCube;
 use lines::inner::{find, put_bytes, put_line, text_start};
 use lines::{MOVES, REFUSED, STROKES};
 use list_text::inner::put_spaced;
-use moves::Verdict;
+use refusal::Refusal;
 use search::Found;
 
 // A text and its length.
@@ -27,8 +28,8 @@ pub struct Printed {
 // The budget that is meant where none is told.
 pub const DEFAULT_BUDGET: u64 = 1000000000;
 
-// What stands for a line that is no number: above all that ten digits tell.
-const NO_NUMBER: u64 = 10000000000;
+// The greatest limit of a search.
+const MAX_LIMIT: u64 = 31;
 
 const TURNS: [u8; 8] = *b"solution";
 
@@ -61,12 +62,11 @@ fn print_bytes(bytes: &[u8]) -> Printed
     Printed { text, len }
 }
 
-fn print_refused(n: u8) -> Printed
-    ensures { (result ≡ printed_as (line refused_word n)) × (result.len ≤ 256) }
+fn print_refused(r: Refusal) -> Printed
+    ensures { (result ≡ printed_as (line refused_word (number r))) × (result.len ≤ 256) }
 {
     let mut text = [0u8; 256];
-    let word = REFUSED;
-    let len = put_line(&word, n as u64, &mut text, 0);
+    let len = put_line(&REFUSED, u64::from(u8::from(r)), &mut text, 0);
     Printed { text, len }
 }
 
@@ -76,8 +76,7 @@ fn put_turns(one: &[u8], two: &[u8], out: &mut [u8]) -> usize
     ensures value { result ≡ length (turns_line one.now two.now) }
     ensures out_after { out.new ≡ over out.old 0 (turns_line one.now two.now) }
 {
-    let word = TURNS;
-    let a = put_bytes(&word, out, 0);
+    let a = put_bytes(&TURNS, out, 0);
     let b = put_spaced(one, out, a);
     let c = put_spaced(two, out, b);
     out[c] = b'\n';
@@ -92,16 +91,11 @@ fn put_counts(one: &[u8], two: &[u8], count: u32, out: &mut [u8], at: usize) -> 
 {
     let both = (one.len() + two.len()) as u64;
     let strokes = (scramble::strokes(one) + scramble::strokes(two)) as u64;
-    let word = PHASE1;
-    let a = put_line(&word, one.len() as u64, out, at);
-    let word = PHASE2;
-    let b = put_line(&word, two.len() as u64, out, a);
-    let word = MOVES;
-    let c = put_line(&word, both, out, b);
-    let word = STROKES;
-    let d = put_line(&word, strokes, out, c);
-    let word = ENTRIES;
-    put_line(&word, count as u64, out, d)
+    let a = put_line(&PHASE1, one.len() as u64, out, at);
+    let b = put_line(&PHASE2, two.len() as u64, out, a);
+    let c = put_line(&MOVES, both, out, b);
+    let d = put_line(&STROKES, strokes, out, c);
+    put_line(&ENTRIES, count as u64, out, d)
 }
 
 // The text of two lists that solve a cube.
@@ -120,52 +114,35 @@ fn print_answer(s: search::Solution) -> Printed
     requires { HasMoves s }
     ensures { (result ≡ printed_as (answer_text s)) × (result.len ≤ 256) }
 {
-    let found = s.found;
-    match found {
-        Found::Solved => {
-            let one = s.phase1;
-            let two = s.phase2;
-            print_solved(&one[..s.n1], &two[..s.n2], s.count)
-        }
-        Found::Nothing => {
-            let word = NONE;
-            print_bytes(&word)
-        }
-        Found::Spent => {
-            let word = SPENT;
-            print_bytes(&word)
-        }
-        Found::Refused(n) => print_refused(n),
+    match s.found {
+        Found::Solved => print_solved(&s.phase1[..s.n1], &s.phase2[..s.n2], s.count),
+        Found::Nothing => print_bytes(&NONE),
+        Found::Spent => print_bytes(&SPENT),
+        Found::Refused(r) => print_refused(r),
     }
 }
 
 // ---- what is asked
 
-// The number of a line: the usual one for an empty line, and NO_NUMBER for one that isn't a number.
-fn amount(text: &[u8], usual: u64) -> u64
+// The number of a line: the usual one for an empty line, and none for one that isn't a number.
+fn amount(text: &[u8], usual: u64) -> Option<u64>
     ensures { result ≡ amount_of usual text.now }
 {
     let n = text.len();
     if n == 0 {
-        return usual;
+        return Some(usual);
     }
     if 10 < n {
-        return NO_NUMBER;
+        return None;
     }
     let mut value: u64 = 0;
-    let mut i = 0;
-    while i < n {
-        let c = text[i];
-        if c < b'0' {
-            return NO_NUMBER;
+    for c in text {
+        if !c.is_ascii_digit() {
+            return None;
         }
-        if b'9' < c {
-            return NO_NUMBER;
-        }
-        value = 10 * value + ((c - b'0') as u64);
-        i += 1;
+        value = 10 * value + ((*c - b'0') as u64);
     }
-    value
+    Some(value)
 }
 
 // The text for a cube and a limit: what stands behind the second line is the budget's line, and nothing may come after it.
@@ -173,14 +150,14 @@ fn with_limit(cube: CubieCube, limit: u8, text: &[u8], moves: &[u16], prunes: &[
     ensures { (result ≡ printed_as (budget_text cube limit text.now moves.now prunes.now)) × (result.len ≤ 256) }
 {
     let end = find(text, b'\n');
-    let budget = amount(&text[..end], DEFAULT_BUDGET);
+    let Some(budget) = amount(&text[..end], DEFAULT_BUDGET) else {
+        return print_bytes(&BAD_BUDGET);
+    };
     if 4294967295 < budget {
-        let word = BAD_BUDGET;
-        return print_bytes(&word);
+        return print_bytes(&BAD_BUDGET);
     }
     if end + 1 < text.len() {
-        let word = BAD_INPUT;
-        return print_bytes(&word);
+        return print_bytes(&BAD_INPUT);
     }
     print_answer(solver::solve(cube, limit, budget as u32, moves, prunes))
 }
@@ -190,9 +167,11 @@ fn with_cube(cube: CubieCube, text: &[u8], moves: &[u16], prunes: &[u8]) -> Prin
     ensures { (result ≡ printed_as (limit_text cube text.now moves.now prunes.now)) × (result.len ≤ 256) }
 {
     let end = find(text, b'\n');
-    let limit = amount(&text[..end], 23);
-    if 31 < limit {
-        return print_refused(9);
+    let Some(limit) = amount(&text[..end], 23) else {
+        return print_refused(Refusal::Limit);
+    };
+    if MAX_LIMIT < limit {
+        return print_refused(Refusal::Limit);
     }
     let start = text_start(text, end);
     with_limit(cube, limit as u8, &text[start..], moves, prunes)
@@ -204,15 +183,12 @@ pub fn solution(input: &[u8], moves: &[u16], prunes: &[u8]) -> Printed
     ensures len_bound { result.len ≤ 256 }
 {
     if 1024 < input.len() {
-        return print_refused(10);
+        return print_refused(Refusal::Length);
     }
     let end = find(input, b'\n');
-    let read = facelet::read_strict(&input[..end]);
-    let verdict = read.verdict;
-    match verdict {
-        Verdict::Refused(n) => print_refused(n),
-        Verdict::Good => {
-            let cube = read.cube;
+    match facelet::read_strict(&input[..end]) {
+        Err(r) => print_refused(r),
+        Ok(cube) => {
             let start = text_start(input, end);
             with_cube(cube, &input[start..], moves, prunes)
         }
@@ -237,10 +213,8 @@ fn draw(s: &[u8], out: &mut [u8])
     requires { (length s.now ≡ 54) × (159 ≤ length out.old) }
     ensures { out.new ≡ over out.old 0 (drawing s.now) }
 {
-    let mut i = 0;
-    while i < 159 {
+    for i in 0..159 {
         out[i] = shown(s, UNFOLDED[i]);
-        i += 1;
     }
 }
 
@@ -250,14 +224,14 @@ pub fn net(input: &[u8]) -> Printed
     ensures len_bound { result.len ≤ 256 }
 {
     if 1024 < input.len() {
-        return print_refused(10);
+        return print_refused(Refusal::Length);
     }
     let end = find(input, b'\n');
     if end != 54 {
-        return print_refused(1);
+        return print_refused(Refusal::Stickers);
     }
     if !stickers::inner::all_colors(&input[..end]) {
-        return print_refused(2);
+        return print_refused(Refusal::Letter);
     }
     let mut text = [0u8; 256];
     draw(&input[..end], &mut text);

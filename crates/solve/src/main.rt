@@ -3,19 +3,13 @@
 // input too, and needs no tables. What is printed is that of `solution::solution` and `solution::net`.
 #![tactic(auto)]
 
+use refusal::code;
 use solution::Printed;
 use std::io;
 use std::rt::{Env, Files};
-use table_io::inner::{arg_count, good, none_refused, path_arg, path_room, read_file};
-
-// Room for the block of move tables, and for that of pruning tables.
-fn moves_room() -> [u16; 891780] {
-    [0; 891780]
-}
-
-fn prunes_room() -> [u8; 4031685] {
-    [0; 4031685]
-}
+use table_io::inner::{
+    arg_count, good, moves_room, none_refused, path_arg, path_room, prunes_room, read_file,
+};
 
 // One byte more than is taken, so that a longer input shows.
 fn input_room() -> [u8; 1025] {
@@ -57,15 +51,12 @@ fn print_usage(rt: &impl Eprint) -> io::Result<()> {
 
 // Whether a word is `net`.
 fn is_net(word: &[u8]) -> bool {
-    if word.len() != 3 {
-        return false;
-    }
-    word[0] == b'n' && word[1] == b'e' && word[2] == b't'
+    word == b"net".as_slice()
 }
 
 // `solve`.
 fn run_built<R: Input + Print>(rt: &R, moves: &mut [u16], prunes: &mut [u8]) -> io::Result<()> {
-    if none_refused(rt, table_io::build(moves, prunes) as u64)? {
+    if none_refused(rt, u64::from(code(table_io::build(moves, prunes))))? {
         solve_with(rt, moves, prunes)?;
     }
     Ok(())
@@ -95,13 +86,10 @@ fn run<R: Env + Files + Input + Print + Eprint>(
     moves: &mut [u16],
     prunes: &mut [u8],
 ) -> io::Result<()> {
-    let count = arg_count(rt);
-    if count < 2 {
-        run_built(rt, moves, prunes)
-    } else if count == 2 {
-        run_word(rt, moves, prunes)
-    } else {
-        print_usage(rt)
+    match arg_count(rt) {
+        0 | 1 => run_built(rt, moves, prunes),
+        2 => run_word(rt, moves, prunes),
+        _ => print_usage(rt),
     }
 }
 

@@ -1,29 +1,31 @@
 // The two-phase search: `Solver` of kewb's src/two_phase/solver.rs, with no timeout and fresh for each call.
 #![tactic(auto)]
 
-ghost use Rattle.std.specs.Prelude.{◌≡◌, ◌++◌};
+ghost use Rattle.std.specs.Prelude.{◌≡◌, ◌++◌, IfOk};
 ghost use Rattle.base.specs.Lists.{Under};
 ghost use Rattle.cubie.specs.Cube.{refusal_of};
-ghost use Rattle.search.specs.Solve.{HasMoves, solves, checked, search_refusal, solve_of};
+ghost use Rattle.search.specs.Solve.{HasMoves, Searchable, solves, checked, checked_search, solve_of};
 
 use cubie::CubieCube;
+use cubie::inner::{apply_moves, check_solvable, is_solved};
 use move_table::MOVES_LEN;
-use pruning_table::PRUNES_LEN;
+use pruning_table::{PRUNES_LEN, Tables};
+use refusal::Refusal;
+use search::inner::{no_lists, search};
 use search::{Found, Solution};
 
-// 4, 5 or 6 for a cube that isn't searched, else 0.
-fn search_refusal(cube: CubieCube) -> u8
-    ensures { result ≡ search_refusal cube }
+// What is refused before the search: 9, then 10, then 4, 5 and 6.
+fn check_search(cube: CubieCube, limit: u8, moves: &[u16], prunes: &[u8]) -> Result<(), Refusal>
+    ensures value { result ≡ checked_search cube limit moves.now prunes.now }
+    ensures good { IfOk result (λ _. Searchable cube limit moves.now prunes.now) }
 {
-    let refusal = cubie::inner::refusal(cube);
-    if refusal != 0 {
-        return refusal;
+    if 31 < limit {
+        return Err(Refusal::Limit);
     }
-    if cubie::inner::is_solvable(cube) {
-        0
-    } else {
-        6
+    if moves.len() != MOVES_LEN || prunes.len() != PRUNES_LEN {
+        return Err(Refusal::Length);
     }
+    check_solvable(cube)
 }
 
 // Whether the two lists, one after the other, solve the cube.
@@ -31,7 +33,7 @@ fn solves_it(cube: CubieCube, one: &[u8], two: &[u8]) -> bool
     requires { (refusal_of cube ≡ 0) × Under 18 one.now × Under 18 two.now }
     ensures { result ≡ solves cube (one.now ++ two.now) }
 {
-    cubie::inner::is_solved(cubie::inner::apply_moves(cubie::inner::apply_moves(cube, one), two))
+    is_solved(apply_moves(apply_moves(cube, one), two))
 }
 
 // The last check: a list that doesn't solve the cube is not given out.
@@ -41,15 +43,13 @@ fn last_check(cube: CubieCube, s: Solution) -> Solution
     ensures value { result ≡ checked cube s }
     ensures has_moves_2 { HasMoves result }
 {
-    let found = s.found;
-    match found {
+    match s.found {
         Found::Solved => {
-            let one = s.phase1;
-            let two = s.phase2;
-            if solves_it(cube, &one[..s.n1], &two[..s.n2]) {
-                return s;
+            if solves_it(cube, &s.phase1[..s.n1], &s.phase2[..s.n2]) {
+                s
+            } else {
+                no_lists(Found::Refused(Refusal::LastCheck), s.count)
             }
-            search::inner::no_lists(Found::Refused(12), s.count)
         }
         _ => s,
     }
@@ -60,21 +60,11 @@ pub fn solve(cube: CubieCube, limit: u8, budget: u32, moves: &[u16], prunes: &[u
     ensures value { result ≡ solve_of cube limit budget moves.now prunes.now }
     ensures has_moves { HasMoves result }
 {
-    if 31 < limit {
-        return search::inner::no_lists(Found::Refused(9), 0);
+    match check_search(cube, limit, moves, prunes) {
+        Err(r) => no_lists(Found::Refused(r), 0),
+        Ok(()) => {
+            let tables = Tables { moves, prunes };
+            last_check(cube, search(cube, limit as usize, budget, &tables))
+        }
     }
-    if moves.len() != MOVES_LEN {
-        return search::inner::no_lists(Found::Refused(10), 0);
-    }
-    if prunes.len() != PRUNES_LEN {
-        return search::inner::no_lists(Found::Refused(10), 0);
-    }
-    let refusal = search_refusal(cube);
-    if refusal != 0 {
-        return search::inner::no_lists(Found::Refused(refusal), 0);
-    }
-    last_check(
-        cube,
-        search::inner::search(cube, limit as usize, budget, moves, prunes),
-    )
 }

@@ -13,10 +13,10 @@ use Rattle.base.specs.Lists.{pick, same_list}
 use Rattle.base.proofs.Tests.{same_list-is, same_list-self}
 use Rattle.cubie.specs.Cube.{InRange}
 use Rattle.cubie.specs.Solvable.{solvable}
-use Rattle.cubie.specs.declared.CubeAnswer.{CubeAnswer}
 use Rattle.cubie.specs.declared.CubieCube.{CubieCube}
-use Rattle.moves.specs.declared.Verdict.TheVariants.{Good}
-use Rattle.cubie.proofs.Answers.{cubed-good, was-good, good-cube}
+use Rattle.std.proofs.Common.{Result, Ok}
+use Rattle.refusal.specs.declared.Refusal.{Refusal}
+use Rattle.refusal.proofs.Laws.{passes, given}
 use Rattle.stickers.specs.Picture.{picture}
 use Rattle.stickers.specs.Reader.{all_colors, cube_read, plain_refusal, strict_refusal, read_plain, read_strict}
 use Rattle.stickers.proofs.Back.{picture-length, read_back}
@@ -25,8 +25,8 @@ use Rattle.stickers.proofs.Ranges.{read-range}
 use Rattle.stickers.proofs.Strict.{strict_same}
 
 -- the answer that is no refusal
-abbrev pub accepted : CubieCube → CubeAnswer
-accepted c = record { verdict = Good; cube = c }
+abbrev pub accepted : CubieCube → Result CubieCube Refusal
+accepted c = Ok c
 
 module _ (c : CubieCube) (r : InRange c) (e : solvable c ≡ true) where
   plain-none : plain_refusal (picture c) ≡ 0
@@ -38,10 +38,10 @@ module _ (c : CubieCube) (r : InRange c) (e : solvable c ≡ true) where
 
   -- "The picture of every solvable cube is read back as that cube by both readers"
   pub plain-reads : read_plain (picture c) ≡ accepted c
-  plain-reads = sym (cubed-good 0 (plain_refusal (picture c)) (sym plain-none) refl c (cube_read (picture c)) (sym (read_back c r)))
+  plain-reads = passes (plain_refusal (picture c)) (cube_read (picture c)) plain-none ∙ ap Ok (read_back c r)
 
   pub strict-reads : read_strict (picture c) ≡ accepted c
-  strict-reads = sym (cubed-good 0 (strict_refusal (picture c)) (sym strict_none) refl c (cube_read (picture c)) (sym (read_back c r)))
+  strict-reads = passes (strict_refusal (picture c)) (cube_read (picture c)) strict_none ∙ ap Ok (read_back c r)
 
 -- what is accepted is the picture of the solvable cube that is given
 plain-taken : (s : List ℕ) → plain_refusal s ≡ 0 → solvable (cube_read s) ≡ true
@@ -75,10 +75,9 @@ strict-exactly s c = (there, λ p. rw p.same (strict-reads c p.range p.solvable)
   where
     there : read_strict s ≡ accepted c → Pictured s c
     there e =
-        let z = was-good (strict_refusal s) (cube_read s) (ap (λ (x : CubeAnswer). x.verdict) e) in
-        let t = strict-taken s z in
-        let g : cube_read s ≡ c = sym (good-cube (strict_refusal s) (cube_read s) z) ∙ ap (λ (x : CubeAnswer). x.cube) e in
-        rw (← g) (record { range = read-range s; solvable = t.1; same = t.0 })
+        let g = given (strict_refusal s) (cube_read s) c e in
+        let t = strict-taken s g.0 in
+        rw (← g.1) (record { range = read-range s; solvable = t.1; same = t.0 })
 
 -- "pictures of different solvable cubes differ"
 pub pictures-differ : (c d : CubieCube) → InRange c → InRange d → picture c ≡ picture d → c ≡ d

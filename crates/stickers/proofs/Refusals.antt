@@ -1,5 +1,4 @@
 -- What a refusal of the readers tells. Assumes nothing.
-use mathlib.Core.Path.{◌≡◌, refl}
 use mathlib.Core.Bool.{Bool, true, false}
 use mathlib.Core.List.{List}
 use Prim.Native.Nat.{ℕ, ◌≤◌}
@@ -7,20 +6,9 @@ use native.Mathlib.Omega.{arith}
 use lib.Dec.{eqb}
 use lib.ListN.{length}
 use Rattle.base.specs.Lists.{pick, same_list}
-use Rattle.cubie.specs.Answers.{cubed, refusal_with}
 use Rattle.cubie.specs.Solvable.{solvable}
-use Rattle.cubie.specs.declared.CubieCube.{CubieCube}
-use Rattle.moves.specs.declared.Verdict.TheVariants as verdict
 use Rattle.stickers.specs.Picture.{picture}
 use Rattle.stickers.specs.Reader.{all_colors, cube_read, plain_refusal, strict_refusal}
-
--- the number of a cube's refusal
-pub cube-refused : (n k : ℕ) (c : CubieCube) → (cubed n c).verdict ≡ verdict.Refused k → (eqb n 0 ≡ false) × (k ≡ n)
-cube-refused n k c h = go (eqb n 0) h
-  where
-    go : (p : Bool) → (pick p (record { verdict = verdict.Good; cube = c }) (refusal_with n)).verdict ≡ verdict.Refused k → (p ≡ false) × (k ≡ n)
-    go true e = let f : ◌≡◌ {A = ℕ} 0 1 = cc in (cc, cc)
-    go false e = (refl, cc)
 
 -- the numbers of the strict reader's refusals
 pub strict-le : (s : List ℕ) → strict_refusal s ≤ 15

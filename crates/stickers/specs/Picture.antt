@@ -1,12 +1,11 @@
 -- The picture of a cube: its 54 stickers. Assumes nothing: these are definitions.
-use Rattle.std.specs.Prelude.{List, [], ◌∷◌, map, ℕ, ◌+◌, ◌-◌, ◌*◌, ◌/◌, ◌%◌, eqb, get_or, set, replicate}
-use Rattle.base.specs.Lists.{pick, range}
-use Rattle.cubie.specs.Cube.{refusal_of}
-use Rattle.cubie.specs.Solvable.{solvable}
+use Rattle.std.specs.Prelude.{List, [], ◌∷◌, map, ℕ, ◌+◌, ◌-◌, ◌*◌, ◌/◌, ◌%◌, get_or, set, Result}
+use Rattle.base.specs.Lists.{range}
+use Rattle.refusal.specs.declared.Refusal.{Refusal}
+use Rattle.refusal.specs.Refusals.{answered}
+use Rattle.cubie.specs.Answers.{solvable_refusal}
 use Rattle.cubie.specs.declared.CubieCube.{CubieCube}
 use Rattle.stickers.specs.Stickers.{corner_facelet, edge_facelet, corner_color, edge_color, solved_face}
-use Rattle.stickers.specs.declared.FaceAnswer.{FaceAnswer}
-use Rattle.moves.specs.declared.Verdict.TheVariants as verdict
 
 -- each place gets its letter
 unfoldable pub paint : List ℕ → List ℕ → List ℕ → List ℕ
@@ -27,12 +26,5 @@ unfoldable pub picture : CubieCube → List ℕ
 picture c = paint edge_facelet (shown 2 edge_color c.ep c.eo) (paint corner_facelet (shown 3 corner_color c.cp c.co) solved_face)
 
 -- 4, 5, 6 by range, and "6 .. for a picture .. a cube that isn't solvable"
-abbrev pub picture_refusal : CubieCube → ℕ
-picture_refusal c = pick (eqb (refusal_of c) 0) (pick (solvable c) 0 6) (refusal_of c)
-
--- beside a refusal every sticker is 0
-abbrev pub face_refusal : ℕ → FaceAnswer
-face_refusal n = record { verdict = verdict.Refused n; face = replicate 54 0 }
-
-abbrev pub picture_answer : CubieCube → FaceAnswer
-picture_answer c = pick (eqb (picture_refusal c) 0) (record { verdict = verdict.Good; face = picture c }) (face_refusal (picture_refusal c))
+abbrev pub picture_answer : CubieCube → Result (List ℕ) Refusal
+picture_answer c = answered (solvable_refusal c) (picture c)

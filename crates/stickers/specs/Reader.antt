@@ -1,9 +1,9 @@
 -- The two readers. Assumes nothing: these are definitions.
-use Rattle.std.specs.Prelude.{Bool, true, ◌&&◌, ◌||◌, List, [], ◌∷◌, map, ℕ, zero, suc, ◌+◌, ◌-◌, ◌*◌, ◌/◌, ◌%◌, eqb, ltb, length, get_or}
+use Rattle.std.specs.Prelude.{Bool, true, ◌&&◌, ◌||◌, List, [], ◌∷◌, map, ℕ, zero, suc, ◌+◌, ◌-◌, ◌*◌, ◌/◌, ◌%◌, eqb, ltb, length, get_or, Result}
 use Rattle.base.specs.Lists.{pick, range, same_list}
-use Rattle.cubie.specs.Answers.{cubed}
+use Rattle.refusal.specs.declared.Refusal.{Refusal}
+use Rattle.refusal.specs.Refusals.{answered}
 use Rattle.cubie.specs.Solvable.{solvable}
-use Rattle.cubie.specs.declared.CubeAnswer.{CubeAnswer}
 use Rattle.cubie.specs.declared.CubieCube.{CubieCube}
 use Rattle.stickers.specs.Picture.{picture}
 use Rattle.stickers.specs.Stickers.{corner_facelet, edge_facelet, corner_color, edge_color}
@@ -81,12 +81,12 @@ cube_read s =
 unfoldable pub plain_refusal : List ℕ → ℕ
 plain_refusal s = pick (eqb (length s) 54) (pick (all_colors s) (pick (solvable (cube_read s)) 0 3) 2) 1
 
-abbrev pub read_plain : List ℕ → CubeAnswer
-read_plain s = cubed (plain_refusal s) (cube_read s)
+abbrev pub read_plain : List ℕ → Result CubieCube Refusal
+read_plain s = answered (plain_refusal s) (cube_read s)
 
 -- the strict reader (added): 15 where the stickers differ from the picture of the cube read
 unfoldable pub strict_refusal : List ℕ → ℕ
 strict_refusal s = pick (eqb (plain_refusal s) 0) (pick (same_list (picture (cube_read s)) s) 0 15) (plain_refusal s)
 
-abbrev pub read_strict : List ℕ → CubeAnswer
-read_strict s = cubed (strict_refusal s) (cube_read s)
+abbrev pub read_strict : List ℕ → Result CubieCube Refusal
+read_strict s = answered (strict_refusal s) (cube_read s)

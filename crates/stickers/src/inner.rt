@@ -14,12 +14,9 @@ fn paint_pieces(p: &[u8], t: &[u8], n: usize, facelets: &[u8], colors: &[u8], fa
     requires facelets_len { (length facelets.now ≡ 24) × Under 54 facelets.now × (length colors.now ≡ 24) × (length face.old ≡ 54) }
     ensures { face.new ≡ paint facelets.now (shown n colors.now p.now t.now) face.old }
 {
-    let mut k: usize = 0;
-    while k < 24 {
+    for (k, f) in facelets.iter().enumerate() {
         let i = k / n;
-        face[facelets[k] as usize] = colors[(p[i] as usize) * n
-            + (k % n + (n - t[i] as usize)) % n];
-        k += 1;
+        face[*f as usize] = colors[(p[i] as usize) * n + (k % n + (n - t[i] as usize)) % n];
     }
 }
 
@@ -29,34 +26,21 @@ pub fn picture_of(c: CubieCube) -> [u8; 54]
     ensures { result ≡ picture c }
 {
     let mut face = SOLVED_FACE_CUBE;
-    let cp = c.cp;
-    let co = c.co;
-    paint_pieces(&cp, &co, 3, &CORNER_FACELET, &CORNER_COLOR, &mut face);
-    let ep = c.ep;
-    let eo = c.eo;
-    paint_pieces(&ep, &eo, 2, &EDGE_FACELET, &EDGE_COLOR, &mut face);
+    paint_pieces(&c.cp, &c.co, 3, &CORNER_FACELET, &CORNER_COLOR, &mut face);
+    paint_pieces(&c.ep, &c.eo, 2, &EDGE_FACELET, &EDGE_COLOR, &mut face);
     face
 }
 
+#[tactic(auto, unfolding(crate::specs::Reader::is_color))]
 fn is_color(x: u8) -> bool
     ensures { result ≡ is_color x }
 {
-    match x {
-        b'U' | b'R' | b'F' | b'D' | b'L' | b'B' => true,
-        _ => false,
-    }
+    matches!(x, b'U' | b'R' | b'F' | b'D' | b'L' | b'B')
 }
 
 // Whether each byte is one of the letters U R F D L B.
 pub fn all_colors(s: &[u8]) -> bool
     ensures { result ≡ all_colors s.now }
 {
-    let mut i = 0;
-    while i < s.len() {
-        if !is_color(s[i]) {
-            return false;
-        }
-        i += 1;
-    }
-    true
+    s.iter().all(|x| is_color(*x))
 }

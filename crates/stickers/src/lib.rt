@@ -1,8 +1,6 @@
 // A cube as its 54 stickers: where each piece shows its colours.
 #![tactic(auto)]
 
-use moves::Verdict;
-
 pub mod inner;
 
 pub const SOLVED_FACE_CUBE: [u8; 54] = *b"UUUUUUUUURRRRRRRRRFFFFFFFFFDDDDDDDDDLLLLLLLLLBBBBBBBBB";
@@ -62,10 +60,3 @@ pub const EDGE_COLOR: [u8; 24] = [
     b'D', b'B', // DB
     b'D', b'L', // DL
 ];
-
-// The 54 stickers of a cube, or a refusal with zeros beside it.
-#[derive(Clone, Copy)]
-pub struct FaceAnswer {
-    pub verdict: Verdict,
-    pub face: [u8; 54],
-}

@@ -15,13 +15,13 @@ use Rattle.move_table.specs.Layout.{move_block, built}
 use Rattle.move_row.specs.Tables.{table_at, columns, size, true_table}
 use Rattle.pair_table.specs.Answers.{Outcome, number_of}
 use Rattle.pruning_table.specs.Check.{first_of, second_of, rows, entries}
-use Rattle.pair_table.specs.declared.Built.{Built}
+use Rattle.pair_table.specs.Answers.{Built}
 use Rattle.pruning_table.proofs.Four.{all-outcome-one}
 use Rattle.pruning_table.proofs.Laws.{outcome-one, any-outcome-one}
 use Rattle.pruning_table.proofs.Ten.{move-within, prune-within}
-use Rattle.table_check.specs.Check.{Checks, checked_number}
-use Rattle.table_check.specs.declared.Checked.{Checked}
-use Rattle.table_check.specs.declared.Checked.TheVariants as checked
+use Rattle.table_check.specs.Check.{Checked, Checks, checked_number}
+use Rattle.table_check.specs.declared.CheckError.TheVariants as check
+use Rattle.std.proofs.Common.{Ok, Err}
 use Rattle.table_check.proofs.Ten.{checks-one}
 use Rattle.table_calls.specs.Calls.{fits, table_number, table_left, block_number, block_left, PruneCall, PairsCall, PrunesCall, packed, CheckCall}
 
@@ -99,13 +99,13 @@ module _ (moves prunes : List ℕ) where
 
   -- the low byte is the paper's number
   pub low_byte : (v : Checked) → Checks moves prunes v → packed v % 256 ≡ checked_number v
-  low_byte checked.Good k = refl
-  low_byte checked.Length k = refl
-  low_byte (checked.Bad t e) k = omega (arith, k.1)
+  low_byte (Ok _) k = refl
+  low_byte (Err check.Length) k = refl
+  low_byte (Err (check.Bad t e)) k = omega (arith, k.1)
 
 -- and above it stand the table and the entry
-pub table-byte : (t e : ℕ) → t < 10 → packed (checked.Bad t e) / 256 % 256 ≡ t
+pub table-byte : (t e : ℕ) → t < 10 → packed (Err (check.Bad t e)) / 256 % 256 ≡ t
 table-byte t e h = omega arith
 
-pub entry-above : (t e : ℕ) → t < 10 → packed (checked.Bad t e) / 65536 ≡ e
+pub entry-above : (t e : ℕ) → t < 10 → packed (Err (check.Bad t e)) / 65536 ≡ e
 entry-above t e h = omega arith

@@ -1,16 +1,14 @@
 -- The builders and the check of the tables by the tables' numbers, on lent memory: what a call returns, and what it leaves.
 -- Assumes nothing: these are definitions.
-use Rattle.std.specs.Prelude.{◌≡◌, Bool, ◌&&◌, List, ℕ, ◌+◌, ◌*◌, ◌≤◌, ◌<◌, ltb, eqb, length}
+use Rattle.std.specs.Prelude.{◌≡◌, Bool, ◌&&◌, List, ℕ, ◌+◌, ◌*◌, ◌≤◌, ◌<◌, ltb, eqb, length, Ok, Err}
 use Rattle.base.specs.Lists.{pick}
 use Rattle.move_table.specs.Layout.{move_block}
 use Rattle.move_row.specs.Tables.{table_at, columns, size, true_table}
-use Rattle.pair_table.specs.Answers.{Outcome, AnyOutcome, number_of}
+use Rattle.pair_table.specs.Answers.{Built, Outcome, AnyOutcome, number_of}
 use Rattle.pruning_table.specs.Block.{AllOutcome}
 use Rattle.pruning_table.specs.Check.{first_of, second_of, rows}
-use Rattle.pair_table.specs.declared.Built.{Built}
-use Rattle.table_check.specs.Check.{Checks}
-use Rattle.table_check.specs.declared.Checked.{Checked}
-use Rattle.table_check.specs.declared.Checked.TheVariants as checked
+use Rattle.table_check.specs.Check.{Checked, Checks}
+use Rattle.table_check.specs.declared.CheckError.TheVariants as check
 
 -- ---- move tables: 0 where the lent slice is of the right length, else "lent slice of the wrong length", 10
 
@@ -52,9 +50,9 @@ PrunesCall moves before after r = (b : Built) × AllOutcome moves before after b
 
 -- the paper's number is the low byte; above it stand the lowest bad table, in a byte, and its lowest bad entry
 abbrev pub packed : Checked → ℕ
-packed checked.Good = 0
-packed checked.Length = 10
-packed (checked.Bad t e) = 13 + 256 * t + 65536 * e
+packed (Ok _) = 0
+packed (Err check.Length) = 10
+packed (Err (check.Bad t e)) = 13 + 256 * t + 65536 * e
 
 abbrev pub CheckCall : List ℕ → List ℕ → ℕ → Type 0
 CheckCall moves prunes r = (v : Checked) × Checks moves prunes v × (r ≡ packed v)

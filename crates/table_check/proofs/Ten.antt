@@ -15,13 +15,13 @@ use Rattle.move_table.proofs.Rows.{table-length}
 use Rattle.pruning_table.specs.Block.{AllOutcome}
 use Rattle.pruning_table.specs.Check.{first_of, entries, part, Blocks, AllTrue}
 use Rattle.pair_table.specs.Pairs.{held, IsTrue, Fine}
-use Rattle.pair_table.specs.declared.Built.TheVariants.{Done}
 use Rattle.pruning_table.proofs.Four.{built-all-true}
 use Rattle.pruning_table.proofs.Ten.{true_step, sound, closed_of, undone-of, move-within, prune-within, move-entries, part_length, same_step}
 use Rattle.pair_table.proofs.Truth.{check-law}
 use Rattle.table_check.specs.Check.{FineAt, Checks}
-use Rattle.table_check.specs.declared.Checked.{Checked}
-use Rattle.table_check.specs.declared.Checked.TheVariants as checked
+use Rattle.table_check.specs.Check.{Checked}
+use Rattle.table_check.specs.declared.CheckError.TheVariants as check
+use Rattle.std.proofs.Common.{Ok, Err}
 
 abbrev T : ℕ → List ℕ
 T t = true_table (table_at t)
@@ -65,32 +65,32 @@ module _ (moves prunes : List ℕ) (b : Blocks moves prunes) where
       }
 
 -- "passes exactly when all ten are true"
-pub passes-exactly : (moves prunes : List ℕ) (r : Checked) → Checks moves prunes r → (r ≡ checked.Good) ↔ AllTrue moves prunes
-passes-exactly moves prunes checked.Length c = (λ e. let z : ◌≡◌ {A = ℕ} 0 1 = cc in absurd (omega arith), λ a. absurd (c a.blocks))
-passes-exactly moves prunes checked.Good c = (λ e. all_true moves prunes c.0 c.1, λ a. refl)
-passes-exactly moves prunes (checked.Bad t e) c =
+pub passes-exactly : (moves prunes : List ℕ) (r : Checked) → Checks moves prunes r → (r ≡ Ok tt) ↔ AllTrue moves prunes
+passes-exactly moves prunes (Err check.Length) c = (λ e. let z : ◌≡◌ {A = ℕ} 0 1 = cc in absurd (omega arith), λ a. absurd (c a.blocks))
+passes-exactly moves prunes (Ok _) c = (λ e. all_true moves prunes c.0 c.1, λ a. refl)
+passes-exactly moves prunes (Err (check.Bad t e)) c =
     (λ g. let z : ◌≡◌ {A = ℕ} 0 1 = cc in absurd (omega arith), λ a. absurd (c.5 (true-fine moves prunes c.0 a t c.1 e c.2)))
 
 -- any two answers are equal
 pub checks-one : (moves prunes : List ℕ) (r s : Checked) → Checks moves prunes r → Checks moves prunes s → r ≡ s
-checks-one moves prunes checked.Length checked.Length a b = refl
-checks-one moves prunes checked.Length checked.Good a b = absurd (a b.0)
-checks-one moves prunes checked.Length (checked.Bad t e) a b = absurd (a b.0)
-checks-one moves prunes checked.Good checked.Length a b = absurd (b a.0)
-checks-one moves prunes checked.Good checked.Good a b = refl
-checks-one moves prunes checked.Good (checked.Bad t e) a b = absurd (b.5 (a.1 t b.1 e b.2))
-checks-one moves prunes (checked.Bad t e) checked.Length a b = absurd (b a.0)
-checks-one moves prunes (checked.Bad t e) checked.Good a b = absurd (a.5 (b.1 t a.1 e a.2))
-checks-one moves prunes (checked.Bad t e) (checked.Bad s d) a b =
+checks-one moves prunes (Err check.Length) (Err check.Length) a b = refl
+checks-one moves prunes (Err check.Length) (Ok _) a b = absurd (a b.0)
+checks-one moves prunes (Err check.Length) (Err (check.Bad t e)) a b = absurd (a b.0)
+checks-one moves prunes (Ok _) (Err check.Length) a b = absurd (b a.0)
+checks-one moves prunes (Ok _) (Ok _) a b = refl
+checks-one moves prunes (Ok _) (Err (check.Bad t e)) a b = absurd (b.5 (a.1 t b.1 e b.2))
+checks-one moves prunes (Err (check.Bad t e)) (Err check.Length) a b = absurd (b a.0)
+checks-one moves prunes (Err (check.Bad t e)) (Ok _) a b = absurd (a.5 (b.1 t a.1 e a.2))
+checks-one moves prunes (Err (check.Bad t e)) (Err (check.Bad s d)) a b =
     let q : t ≡ s =
     ⊎_elim (λ u. absurd (a.5 (b.3 t u.0 e a.2)))
     (λ u. ⊎_elim (λ v. absurd (b.5 (a.3 s v.0 d b.2))) (λ v. le_antisymm v.0 u.0) (less-cut s t)) (less-cut t s) in
     let r : e ≡ d =
     ⊎_elim (λ u. absurd (a.5 (subst (λ (x : ℕ). FineAt moves prunes x e) (sym q) (b.4 e u.0))))
     (λ u. ⊎_elim (λ v. absurd (b.5 (subst (λ (x : ℕ). FineAt moves prunes x d) q (a.4 d v.0)))) (λ v. le_antisymm v.0 u.0) (less-cut d e)) (less-cut e d) in
-    ap₂ checked.Bad q r
+    ap₂ (λ (x y : ℕ). Err (check.Bad x y)) q r
 
 -- so it passes what the builder makes whole by what `get_move_tables` leaves
-pub built-passes : (moves prunes prunes' : List ℕ) → moves ≡ move_block → AllOutcome moves prunes prunes' Done
-    → (r : Checked) → Checks moves prunes' r → r ≡ checked.Good
+pub built-passes : (moves prunes prunes' : List ℕ) → moves ≡ move_block → AllOutcome moves prunes prunes' (Ok tt)
+    → (r : Checked) → Checks moves prunes' r → r ≡ Ok tt
 built-passes moves prunes prunes' e o r c = (passes-exactly moves prunes' r c).1 (built-all-true moves prunes prunes' e o)

@@ -1,80 +1,74 @@
 // The rule of the check at any counts, which the check of all ten calls, and the loops under it.
 ghost use Rattle.std.specs.Prelude.{◌≡◌, List, ℕ, ◌*◌, ◌≤◌, ◌<◌, length};
-ghost use Rattle.pruning_table.specs.Check.{entries, Blocks};
-ghost use Rattle.table_check.specs.Check.{MoveFine, PruneFine, ChecksIn};
+ghost use Rattle.move_row.specs.Tables.{number};
+ghost use Rattle.pruning_table.specs.Check.{prune_number, entries, Blocks};
+ghost use Rattle.table_check.specs.Check.{MoveFine, PruneFine, ChecksIn, told};
 ghost use Rattle.pair_check.specs.Rule.{Tells};
 
-use crate::Checked;
-use move_row::inner::{columns_of, rows_of};
-use pair_check::Rule;
+use crate::CheckError;
+use move_row::MoveTable;
 use pair_check::inner::first_bad;
-use pruning_table::inner::{first_of, move_begins, prune_begins, second_of};
+use pair_table::Pairs;
+use pruning_table::{PruneTable, move_begins};
 
 // The lowest entry of move table t that isn't true.
-fn check_move_table(t: u8, moves: &[u16]) -> Rule
-    requires { (t < 6) × (length moves.now ≡ 891780) }
-    ensures { Tells (MoveFine moves.now t) (entries t) result }
+fn check_move_table(t: MoveTable, moves: &[u16]) -> Option<usize>
+    requires { length moves.now ≡ 891780 }
+    ensures { Tells (MoveFine moves.now (number t)) (entries (number t)) result }
 {
     let at = move_begins(t);
-    let len = rows_of(t) * columns_of(t);
-    let e = move_table::inner::first_bad(t, &moves[at..at + len]);
-    if e < len {
-        return Rule::Fails(e);
-    }
-    Rule::Holds
+    let len = t.rows() * t.columns();
+    move_table::inner::first_bad(t, &moves[at..at + len])
 }
 
 // The lowest entry of pruning table t at which the rule fails, by the lent move tables.
-fn check_prune_table(t: u8, moves: &[u16], prunes: &[u8]) -> Rule
-    requires { (t < 10) × (6 ≤ t) × Blocks moves.now prunes.now }
-    ensures { Tells (PruneFine moves.now prunes.now t) (entries t) result }
+fn check_prune_table(t: PruneTable, moves: &[u16], prunes: &[u8]) -> Option<usize>
+    requires { Blocks moves.now prunes.now }
+    ensures { Tells (PruneFine moves.now prunes.now (prune_number t)) (entries (prune_number t)) result }
 {
-    let a = first_of(t);
-    let b = second_of(t);
-    let k = columns_of(a);
-    let n1 = rows_of(a);
-    let n2 = rows_of(b);
-    let i = move_begins(a);
-    let j = move_begins(b);
-    let p = prune_begins(t);
-    first_bad(
-        &moves[i..i + n1 * k],
-        &moves[j..j + n2 * k],
-        &prunes[p..p + n1 * n2],
-        n1,
-        n2,
-        k,
-    )
+    let (a, b) = (t.first(), t.second());
+    let k = a.columns();
+    let (n1, n2) = (a.rows(), b.rows());
+    let (i, j) = (move_begins(a), move_begins(b));
+    let p = t.begins();
+    let pairs = Pairs {
+        first: &moves[i..i + n1 * k],
+        second: &moves[j..j + n2 * k],
+        rows1: n1,
+        rows2: n2,
+        moves: k,
+    };
+    first_bad(&pairs, &prunes[p..p + n1 * n2])
+}
+
+// What the check of a table says, by its lowest bad entry.
+fn tell(table: u8, bad: Option<usize>) -> Result<(), CheckError>
+    ensures { result ≡ told table bad }
+{
+    match bad {
+        None => Ok(()),
+        Some(entry) => Err(CheckError::Bad { table, entry }),
+    }
 }
 
 // The six move tables. (Six tables and four have a loop each: the compiler then knows the counts of each pruning table.)
-pub(crate) fn check_move_tables(moves: &[u16]) -> Checked
+pub(crate) fn check_move_tables(moves: &[u16]) -> Result<(), CheckError>
     requires { length moves.now ≡ 891780 }
     ensures { (p : List ℕ) → ChecksIn 0 6 moves.now p result }
 {
-    let mut t: u8 = 0;
-    while t < 6 {
-        match check_move_table(t, moves) {
-            Rule::Fails(e) => return Checked::Bad(t, e),
-            Rule::Holds => {}
-        }
-        t += 1;
+    for t in MoveTable::ALL {
+        tell(t.number(), check_move_table(t, moves))?;
     }
-    Checked::Good
+    Ok(())
 }
 
 // The four pruning tables, by the lent move tables.
-pub(crate) fn check_prune_tables(moves: &[u16], prunes: &[u8]) -> Checked
+pub(crate) fn check_prune_tables(moves: &[u16], prunes: &[u8]) -> Result<(), CheckError>
     requires { Blocks moves.now prunes.now }
     ensures { ChecksIn 6 10 moves.now prunes.now result }
 {
-    let mut t: u8 = 6;
-    while t < 10 {
-        match check_prune_table(t, moves, prunes) {
-            Rule::Fails(p) => return Checked::Bad(t, p),
-            Rule::Holds => {}
-        }
-        t += 1;
+    for t in PruneTable::ALL {
+        tell(t.number(), check_prune_table(t, moves, prunes))?;
     }
-    Checked::Good
+    Ok(())
 }

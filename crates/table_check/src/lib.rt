@@ -8,30 +8,22 @@ use pruning_table::PRUNES_LEN;
 
 pub mod inner;
 
-// What the check of all ten tables answers.
-#[derive(Clone, Copy)]
-pub enum Checked {
-    Good,
+// What the check of all ten tables finds wrong.
+#[derive(Clone, Copy, Debug, PartialEq, Eq)]
+pub enum CheckError {
     // 10: a block has the wrong length
     Length,
     // 13: the lowest table that isn't true, and its lowest bad entry
-    Bad(u8, usize),
+    Bad { table: u8, entry: usize },
 }
 
 // The check of all ten tables: the lowest bad table, and its lowest bad entry.
-pub fn check_tables(moves: &[u16], prunes: &[u8]) -> Checked
+pub fn check_tables(moves: &[u16], prunes: &[u8]) -> Result<(), CheckError>
     ensures { Checks moves.now prunes.now result }
 {
-    if moves.len() != MOVES_LEN {
-        return Checked::Length;
+    if moves.len() != MOVES_LEN || prunes.len() != PRUNES_LEN {
+        return Err(CheckError::Length);
     }
-    if prunes.len() != PRUNES_LEN {
-        return Checked::Length;
-    }
-    match inner::check_move_tables(moves) {
-        Checked::Length => return Checked::Length,
-        Checked::Bad(t, e) => return Checked::Bad(t, e),
-        Checked::Good => {}
-    }
+    inner::check_move_tables(moves)?;
     inner::check_prune_tables(moves, prunes)
 }

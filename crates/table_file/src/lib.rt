@@ -8,10 +8,7 @@ ghost use Rattle.table_file.specs.File.{two_each, bytes_left, entries_left};
 fn two_each(entries: usize, bytes: usize) -> bool
     ensures { result ≡ eqb bytes (2 * entries) }
 {
-    if bytes % 2 != 0 {
-        return false;
-    }
-    bytes / 2 == entries
+    bytes % 2 == 0 && bytes / 2 == entries
 }
 
 // The entries as bytes, two each; false where there is another room than that, which is then as it was.
@@ -22,10 +19,10 @@ pub fn to_bytes(entries: &[u16], bytes: &mut [u8]) -> bool
     if !two_each(entries.len(), bytes.len()) {
         return false;
     }
-    for i in 0..entries.len() {
-        let x = entries[i];
-        bytes[2 * i] = (x % 256) as u8;
-        bytes[2 * i + 1] = (x / 256) as u8;
+    for (i, x) in entries.iter().enumerate() {
+        let [low, high] = x.to_le_bytes();
+        bytes[2 * i] = low;
+        bytes[2 * i + 1] = high;
     }
     true
 }
@@ -38,10 +35,8 @@ pub fn from_bytes(bytes: &[u8], entries: &mut [u16]) -> bool
     if !two_each(entries.len(), bytes.len()) {
         return false;
     }
-    for i in 0..entries.len() {
-        let low = bytes[2 * i];
-        let high = bytes[2 * i + 1];
-        entries[i] = (low as u16) + 256 * (high as u16);
+    for (i, x) in entries.iter_mut().enumerate() {
+        *x = u16::from_le_bytes([bytes[2 * i], bytes[2 * i + 1]]);
     }
     true
 }

@@ -12,7 +12,7 @@ use std::{fs, io};
 
 // ---- what is said
 
-// `refused` and the refusal's number, in the low byte; after 13 the table and the entry, above it.
+// `refused` and the refusal's number, in the low byte; after 13 the table and the entry, above it: the word that the check gives C.
 fn print_refused(rt: &impl Print, n: u64) -> io::Result<()> {
     let number = n % 256;
     print!(rt; "refused {number}")?;
@@ -88,6 +88,17 @@ pub fn path_arg<R: Env + Eprint>(rt: &R, i: usize, room: &mut [u8]) -> io::Resul
     }
 }
 
+// ---- the blocks
+
+// Room for the block of move tables, and for that of pruning tables.
+pub fn moves_room() -> [u16; 891780] {
+    [0; 891780]
+}
+
+pub fn prunes_room() -> [u8; 4031685] {
+    [0; 4031685]
+}
+
 // ---- the file
 
 // A path as text, as files are named by; none, said on standard error, where it is no text.
@@ -101,19 +112,13 @@ pub fn path_text<'a>(rt: &impl Eprint, path: &'a [u8]) -> io::Result<Option<&'a 
     }
 }
 
-// How many entries the next part has: all that are left, or 32768.
-pub fn part_of(left: usize) -> usize
-    requires { 0 < left }
-    ensures { (0 < result) × (result ≤ left) × (result ≤ 32768) }
-{
-    if left < 32768 { left } else { 32768 }
-}
+// How many entries are read or written at once: their bytes fill a room of 65536.
+pub const PART: usize = 32768;
 
-// Reads up to 32768 entries; false where the file ends before.
-fn read_part(file: &mut impl Read, part: &mut [u16]) -> io::Result<bool> {
-    if 32768 < part.len() {
-        return Ok(false);
-    }
+// Reads the entries of a part; false where the file ends before.
+fn read_part(file: &mut impl Read, part: &mut [u16]) -> io::Result<bool>
+    requires { length part.old ≤ 32768 }
+{
     let len = 2 * part.len();
     let mut room = [0u8; 65536];
     if stream::read_full(file, &mut room[..len])? != len {
@@ -124,13 +129,10 @@ fn read_part(file: &mut impl Read, part: &mut [u16]) -> io::Result<bool> {
 
 // Reads all entries, part by part.
 fn read_moves(file: &mut impl Read, moves: &mut [u16]) -> io::Result<bool> {
-    let mut at = 0;
-    while at < moves.len() {
-        let n = part_of(moves.len() - at);
-        if !read_part(file, &mut moves[at..at + n])? {
+    for part in moves.chunks_mut(PART) {
+        if !read_part(file, part)? {
             return Ok(false);
         }
-        at += n;
     }
     Ok(true)
 }

@@ -2,19 +2,19 @@
 #![tactic(auto)]
 
 ghost use Rattle.std.specs.Prelude.{◌≡◌};
+ghost use Rattle.refusal.specs.Refusals.{code};
 ghost use Rattle.table_calls.specs.Calls.{block_left};
 ghost use Rattle.table_io.specs.Both.{BuildCall};
 
+use refusal::Refusal;
+
 pub mod inner;
 
-// Both blocks built, the move tables first; the first refusal's number, 0 for none.
-pub fn build(moves: &mut [u16], prunes: &mut [u8]) -> u8
+// Both blocks built, the move tables first.
+pub fn build(moves: &mut [u16], prunes: &mut [u8]) -> Result<(), Refusal>
     ensures moves_after { moves.new ≡ block_left moves.old }
-    ensures build_call { BuildCall moves.old prunes.old prunes.new result }
+    ensures build_call { BuildCall moves.old prunes.old prunes.new (code result) }
 {
-    let six = table_calls::get_move_tables(moves);
-    if six != 0 {
-        return six;
-    }
+    table_calls::get_move_tables(moves)?;
     prune_calls::get_prune_tables(moves, prunes)
 }

@@ -2,73 +2,58 @@
 // `tables check FILE` reads such a file and checks it.
 #![tactic(auto)]
 
+ghost use Rattle.std.specs.Prelude.{◌≤◌, length};
+
+use move_row::MoveTable;
+use pruning_table::{PruneTable, move_begins};
+use refusal::code;
 use std::io::Write;
 use std::rt::{Env, Files};
 use std::{fs, io};
 use table_io::inner::{
-    arg_count, fail, good, none_refused, part_of, path_arg, path_room, path_text, read_file,
+    PART, arg_count, fail, good, moves_room, none_refused, path_arg, path_room, path_text,
+    prunes_room, read_file,
 };
-
-// Room for the block of move tables, and for that of pruning tables.
-fn moves_room() -> [u16; 891780] {
-    [0; 891780]
-}
-
-fn prunes_room() -> [u8; 4031685] {
-    [0; 4031685]
-}
 
 // ---- what is printed
 
-// A line up to the greatest entry.
-fn print_start(rt: &impl Print, t: u64, entries: usize) -> io::Result<()> {
-    print!(rt; "table {t} entries {entries} greatest ")
+// The part of a block from `at` on, `len` entries long.
+fn part_of<T>(block: &[T], at: usize, len: usize) -> Option<&[T]> {
+    block.get(at..)?.get(..len)
 }
 
-// And what comes after it.
-fn print_sum(rt: &impl Print, sum: u64) -> io::Result<()> {
-    println!(rt; " sum {sum:016x}")
-}
-
-// The line of a move table, `len` entries of the block from `at` on: it has no distances.
-fn print_moves(rt: &impl Print, t: u64, moves: &[u16], at: usize, len: usize) -> io::Result<()> {
-    if moves.len() < at {
+// The line of a move table: it has no distances.
+fn print_moves(rt: &impl Print, t: MoveTable, moves: &[u16]) -> io::Result<()> {
+    let len = t.rows() * t.columns();
+    let Some(part) = part_of(moves, move_begins(t), len) else {
         return Ok(());
-    }
-    if moves.len() - at < len {
-        return Ok(());
-    }
-    print_start(rt, t, len)?;
-    print!(rt; "-")?;
-    print_sum(rt, checksum::sum16(&moves[at..at + len]))
+    };
+    let number = t.number();
+    let sum = checksum::sum16(part);
+    println!(rt; "table {number} entries {len} greatest - sum {sum:016x}")
 }
 
 // The line of a pruning table.
-fn print_prunes(rt: &impl Print, t: u64, prunes: &[u8], at: usize, len: usize) -> io::Result<()> {
-    if prunes.len() < at {
+fn print_prunes(rt: &impl Print, t: PruneTable, prunes: &[u8]) -> io::Result<()> {
+    let len = t.first().rows() * t.second().rows();
+    let Some(part) = part_of(prunes, t.begins(), len) else {
         return Ok(());
-    }
-    if prunes.len() - at < len {
-        return Ok(());
-    }
-    print_start(rt, t, len)?;
-    let greatest = checksum::greatest(&prunes[at..at + len]);
-    print!(rt; "{greatest}")?;
-    print_sum(rt, checksum::sum8(&prunes[at..at + len]))
+    };
+    let number = t.number();
+    let greatest = checksum::greatest(part);
+    let sum = checksum::sum8(part);
+    println!(rt; "table {number} entries {len} greatest {greatest} sum {sum:016x}")
 }
 
 // The ten lines.
 fn print_tables(rt: &impl Print, moves: &[u16], prunes: &[u8]) -> io::Result<()> {
-    print_moves(rt, 0, moves, move_table::CO_AT, 39366)?;
-    print_moves(rt, 1, moves, move_table::EO_AT, 36864)?;
-    print_moves(rt, 2, moves, move_table::E_COMBO_AT, 8910)?;
-    print_moves(rt, 3, moves, move_table::CP_AT, 403200)?;
-    print_moves(rt, 4, moves, move_table::UD_EP_AT, 403200)?;
-    print_moves(rt, 5, moves, move_table::E_EP_AT, 240)?;
-    print_prunes(rt, 6, prunes, pruning_table::CO_E_AT, 1082565)?;
-    print_prunes(rt, 7, prunes, pruning_table::EO_E_AT, 1013760)?;
-    print_prunes(rt, 8, prunes, pruning_table::CP_E_AT, 967680)?;
-    print_prunes(rt, 9, prunes, pruning_table::EP_E_AT, 967680)
+    for t in MoveTable::ALL {
+        print_moves(rt, t, moves)?;
+    }
+    for t in PruneTable::ALL {
+        print_prunes(rt, t, prunes)?;
+    }
+    Ok(())
 }
 
 // How many bytes a file of so many entries of 16 bits and so many bytes has; no memory holds as many as would wrap.
@@ -89,7 +74,7 @@ fn print_check(rt: &impl Print, moves: &[u16], prunes: &[u8]) -> io::Result<bool
 
 // Builds the tables, prints their lines and checks them; whether they are good.
 fn build(rt: &impl Print, moves: &mut [u16], prunes: &mut [u8]) -> io::Result<bool> {
-    if !none_refused(rt, table_io::build(moves, prunes) as u64)? {
+    if !none_refused(rt, u64::from(code(table_io::build(moves, prunes))))? {
         return Ok(false);
     }
     print_tables(rt, moves, prunes)?;
@@ -98,39 +83,29 @@ fn build(rt: &impl Print, moves: &mut [u16], prunes: &mut [u8]) -> io::Result<bo
 
 // ---- the file
 
-// Writes up to 32768 entries, and none of more; whether they were so few.
-fn write_part(file: &mut impl Write, part: &[u16]) -> io::Result<bool> {
-    if 32768 < part.len() {
-        return Ok(false);
-    }
+// Writes the entries of a part.
+fn write_part(file: &mut impl Write, part: &[u16]) -> io::Result<()>
+    requires { length part.now ≤ 32768 }
+{
     let len = 2 * part.len();
     let mut room = [0u8; 65536];
     table_file::to_bytes(part, &mut room[..len]);
-    file.write_all(&room[..len])?;
-    Ok(true)
+    file.write_all(&room[..len])
 }
 
 // Writes all entries, part by part.
-fn write_moves(file: &mut impl Write, moves: &[u16]) -> io::Result<bool> {
-    let mut at = 0;
-    while at < moves.len() {
-        let n = part_of(moves.len() - at);
-        if !write_part(file, &moves[at..at + n])? {
-            return Ok(false);
-        }
-        at += n;
+fn write_moves(file: &mut impl Write, moves: &[u16]) -> io::Result<()> {
+    for part in moves.chunks(PART) {
+        write_part(file, part)?;
     }
-    Ok(true)
+    Ok(())
 }
 
-// Writes both blocks to a file that it makes, or empties first; whether all entries were taken.
-fn write_blocks(files: &impl Files, path: &str, moves: &[u16], prunes: &[u8]) -> io::Result<bool> {
+// Writes both blocks to a file that it makes, or empties first.
+fn write_blocks(files: &impl Files, path: &str, moves: &[u16], prunes: &[u8]) -> io::Result<()> {
     let mut file = fs::create(files, path)?;
-    if !write_moves(&mut file, moves)? {
-        return Ok(false);
-    }
-    file.write_all(prunes)?;
-    Ok(true)
+    write_moves(&mut file, moves)?;
+    file.write_all(prunes)
 }
 
 // Writes both blocks and says how many bytes they are, or says that the file can't be written.
@@ -144,8 +119,7 @@ fn write_file<R: Files + Print + Eprint>(
         return Ok(());
     };
     match write_blocks(rt, path, moves, prunes) {
-        Ok(true) => print_written(rt, moves.len() as u64, prunes.len() as u64),
-        Ok(false) => fail(rt, path, "A part has too many entries"),
+        Ok(()) => print_written(rt, moves.len() as u64, prunes.len() as u64),
         Err(e) => fail(rt, path, e),
     }
 }
@@ -171,11 +145,7 @@ fn print_usage(rt: &impl Eprint) -> io::Result<()> {
 
 // Whether a word is `check`.
 fn is_check(word: &[u8]) -> bool {
-    if word.len() != 5 {
-        return false;
-    }
-    let front = word[0] == b'c' && word[1] == b'h' && word[2] == b'e';
-    front && word[3] == b'c' && word[4] == b'k'
+    word == b"check".as_slice()
 }
 
 // `tables FILE`, where FILE isn't the word `check`.
@@ -227,16 +197,14 @@ fn run<R: Env + Files + Print + Eprint>(
     moves: &mut [u16],
     prunes: &mut [u8],
 ) -> io::Result<()> {
-    let count = arg_count(rt);
-    if count < 2 {
-        build(rt, moves, prunes)?;
-        Ok(())
-    } else if count == 2 {
-        run_write(rt, moves, prunes)
-    } else if count == 3 {
-        run_check(rt, moves, prunes)
-    } else {
-        print_usage(rt)
+    match arg_count(rt) {
+        0 | 1 => {
+            build(rt, moves, prunes)?;
+            Ok(())
+        }
+        2 => run_write(rt, moves, prunes),
+        3 => run_check(rt, moves, prunes),
+        _ => print_usage(rt),
     }
 }
 

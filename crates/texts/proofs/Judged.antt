@@ -1,56 +1,53 @@
 -- The judge's word: what it is for each score, and that a score is read back from it. Assumes nothing.
-use mathlib.Core.Path.{◌≡◌, refl, sym, ap, ◌∙◌}
-use mathlib.Core.Bool.{Bool, true, false}
-use mathlib.Core.List.{List}
-use Prim.Native.Nat.{ℕ, ◌+◌, ◌*◌, ◌/◌, ◌%◌, ◌≤◌}
-use native.Mathlib.Omega.{arith}
-use lib.Dec.{eqb}
-use borrow.Author.Tests.{eq-eqb, ne_eqb, eqb-true, eqb-false}
+use Rattle.std.proofs.Common.{arith, ◌≡◌, refl, sym, ap, ◌∙◌, subst, IfOk, Bool, true, false, List, ℕ, ◌+◌, ◌*◌, ◌/◌, ◌%◌, ◌≤◌, Result, Ok, Err}
 use Rattle.base.specs.Lists.{bit}
+use Rattle.refusal.specs.declared.Refusal.{Refusal}
+use Rattle.refusal.specs.Refusals.{number, code}
+use Rattle.refusal.proofs.Laws.{number-small}
 use Rattle.judgement.specs.Judge.{scored}
 use Rattle.judgement.specs.declared.Score.{Score}
-use Rattle.judgement.proofs.Refusals.{few-moves, refusal-le}
+use Rattle.judgement.proofs.Refusals.{Few, few-moves}
 use Rattle.texts.specs.Judge.{score_word, judge_word}
 
-module _ (k : Score) where
-  pub word-refused : (k.refusal ≡ 0 → ⊥) → k.refusal ≡ score_word k
-  unfolding score_word
-  word-refused n = rw (ne_eqb k.refusal 0 n)
+pub word-refused : (r : Refusal) → score_word (Err r) ≡ number r
+unfolding score_word
+word-refused r = refl
 
-  pub word-judged : k.refusal ≡ 0 → 65536 * k.moves + 4294967296 * k.strokes + 256 * bit k.solved ≡ score_word k
-  unfolding score_word
-  word-judged z = rw (eq-eqb k.refusal 0 z)
+pub word-judged : (k : Score) → score_word (Ok k) ≡ 65536 * k.moves + 4294967296 * k.strokes + 256 * bit k.solved
+unfolding score_word
+word-judged k = refl
 
-  pub word-yes : k.refusal ≡ 0 → k.solved ≡ true → 65536 * k.moves + 4294967296 * k.strokes + 256 ≡ score_word k
-  word-yes z y = ap (λ (b : Bool). 65536 * k.moves + 4294967296 * k.strokes + 256 * bit b) (sym y) ∙ word-judged z
+pub word-yes : (k : Score) → k.solved ≡ true → 65536 * k.moves + 4294967296 * k.strokes + 256 ≡ score_word (Ok k)
+word-yes k y = ap (λ (b : Bool). 65536 * k.moves + 4294967296 * k.strokes + 256 * bit b) (sym y) ∙ sym (word-judged k)
 
-  pub word-no : k.refusal ≡ 0 → k.solved ≡ false → 65536 * k.moves + 4294967296 * k.strokes ≡ score_word k
-  word-no z n = omega arith ∙ ap (λ (b : Bool). 65536 * k.moves + 4294967296 * k.strokes + 256 * bit b) (sym n) ∙ word-judged z
+pub word-no : (k : Score) → k.solved ≡ false → 65536 * k.moves + 4294967296 * k.strokes ≡ score_word (Ok k)
+word-no k n = omega arith ∙ ap (λ (b : Bool). 65536 * k.moves + 4294967296 * k.strokes + 256 * bit b) (sym n) ∙ sym (word-judged k)
 
 bit_le : (b : Bool) → bit b ≤ 1
 bit_le true = omega arith
 bit_le false = omega arith
 
+-- what is told of moves and strokes
+pub few-of : (s : List ℕ) (k : Score) → scored s ≡ Ok k → Few k
+few-of s k e = subst (λ (q : Result Score Refusal). IfOk q Few) e (few-moves s)
+
 -- ---- the header's macros read the word back
 
-module _ (s : List ℕ) where
-  -- the low byte is the refusal's number
-  pub judged-number : judge_word s % 256 ≡ (scored s).refusal
-  judged-number = go (eqb (scored s).refusal 0) refl
-    where
-      go : (b : Bool) → eqb (scored s).refusal 0 ≡ b → judge_word s % 256 ≡ (scored s).refusal
-      go true e =
-          let z = eqb-true (scored s).refusal 0 e in
-          omega (arith, z, word-judged (scored s) z)
-      go false e = omega (arith, word-refused (scored s) (eqb-false (scored s).refusal 0 e), refusal-le s)
+-- the low byte is the refusal's number
+pub judged-number : (s : List ℕ) → judge_word s % 256 ≡ code (scored s)
+judged-number s = go (scored s) (few-moves s)
+  where
+    go : (q : Result Score Refusal) → IfOk q Few → score_word q % 256 ≡ code q
+    go (Ok k) few = omega (arith, word-judged k, few.0, bit_le k.solved)
+    go (Err r) few = omega (arith, word-refused r, number-small r)
 
-  -- and where it is 0 the rest is the score
-  module _ (z : (scored s).refusal ≡ 0) where
-    pub judged-solved : judge_word s / 256 % 256 ≡ bit (scored s).solved
-    judged-solved = omega (arith, word-judged (scored s) z, (few-moves s).0, bit_le (scored s).solved)
+-- and where there is none the rest is the score
+module _ (s : List ℕ) (k : Score) (e : scored s ≡ Ok k) where
+  pub judged-solved : judge_word s / 256 % 256 ≡ bit k.solved
+  judged-solved = rw e (omega (arith, word-judged k, (few-of s k e).0, bit_le k.solved))
 
-    pub judged-moves : judge_word s / 65536 % 256 ≡ (scored s).moves
-    judged-moves = omega (arith, word-judged (scored s) z, (few-moves s).0, bit_le (scored s).solved)
+  pub judged-moves : judge_word s / 65536 % 256 ≡ k.moves
+  judged-moves = rw e (omega (arith, word-judged k, (few-of s k e).0, bit_le k.solved))
 
-    pub judged-strokes : judge_word s / 4294967296 ≡ (scored s).strokes
-    judged-strokes = omega (arith, word-judged (scored s) z, (few-moves s).0, bit_le (scored s).solved)
+  pub judged-strokes : judge_word s / 4294967296 ≡ k.strokes
+  judged-strokes = rw e (omega (arith, word-judged k, (few-of s k e).0, bit_le k.solved))

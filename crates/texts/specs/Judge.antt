@@ -1,7 +1,9 @@
 -- What a call of the judge returns, and leaves in the bytes and the count that are lent; and the same in one word, with nothing lent.
 -- Assumes nothing: these are definitions.
-use Rattle.std.specs.Prelude.{List, ℕ, ◌+◌, ◌*◌, eqb, length}
+use Rattle.std.specs.Prelude.{List, ℕ, ◌+◌, ◌*◌, eqb, length, Result, Ok, Err}
 use Rattle.base.specs.Lists.{pick, bit}
+use Rattle.refusal.specs.declared.Refusal.{Refusal}
+use Rattle.refusal.specs.Refusals.{number}
 use Rattle.judgement.specs.Judge.{printed, scored}
 use Rattle.judgement.specs.declared.Score.{Score}
 
@@ -16,8 +18,9 @@ unfoldable pub judge_count : List ℕ → List ℕ → ℕ → ℕ
 judge_count input room before = pick (eqb (length room) 64) (printed input).len before
 
 -- the refusal's number in the low byte; where it is 0, solved in bits 8 to 15, the moves in bits 16 to 23, the strokes from bit 32 on
-unfoldable pub score_word : Score → ℕ
-score_word k = pick (eqb k.refusal 0) (65536 * k.moves + 4294967296 * k.strokes + 256 * bit k.solved) k.refusal
+unfoldable pub score_word : Result Score Refusal → ℕ
+score_word (Ok k) = 65536 * k.moves + 4294967296 * k.strokes + 256 * bit k.solved
+score_word (Err r) = number r
 
 -- "whether the moves solve the cube read", or the refusal
 abbrev pub judge_word : List ℕ → ℕ

@@ -9,19 +9,15 @@ fn settle(p: &mut [u8], i: usize) -> u8
     requires { i < length p.old }
     ensures { Settled i p.old p.new result }
 {
-    let x = p[i];
-    if x as usize == i {
+    if p[i] as usize == i {
         return 0;
     }
-    let mut j = i + 1;
-    while j < p.len() {
-        let y = p[j];
-        if y as usize == i {
-            p[i] = y;
-            p[j] = x;
+    // A loop: `position` over the later places makes the count a third slower.
+    for j in i + 1..p.len() {
+        if p[j] as usize == i {
+            p.swap(i, j);
             return 1;
         }
-        j += 1;
     }
     0
 }
@@ -31,11 +27,9 @@ pub fn count_swaps(p: &mut [u8]) -> u8
     requires { length p.old ≤ 12 }
     ensures { result ≡ swaps p.old }
 {
-    let mut count: u8 = 0;
-    let mut i = 0;
-    while i < p.len() {
+    let mut count = 0;
+    for i in 0..p.len() {
         count += settle(p, i);
-        i += 1;
     }
     count
 }
@@ -45,37 +39,34 @@ pub fn count_turns(s: &[u8], k: u8) -> u8
     requires { (length s.now ≤ 12) × (0 < k) × (k ≤ 3) × Under k s.now }
     ensures { result ≡ total (λ x. (k - x) % k) s.now }
 {
-    let mut count: u8 = 0;
-    let mut i = 0;
-    while i < s.len() {
-        count += (k - s[i]) % k;
-        i += 1;
+    let mut count = 0;
+    for x in s {
+        count += (k - *x) % k;
     }
     count
 }
 
-// The pieces of `p` at the places that `q` names.
-pub fn permute(p: &[u8], q: &[u8], out: &mut [u8])
-    requires { (length q.now ≡ length out.old) × Under (length p.now) q.now }
-    ensures { out.new ≡ compose p.now q.now }
+// The pieces of `p` at the places that `q` names. (`map` of an array asks for a bound on the stack that no N shows.)
+pub fn permute<const N: usize>(p: &[u8], q: &[u8; N]) -> [u8; N]
+    requires { Under (length p.now) q.now }
+    ensures { result ≡ compose p.now q.now }
 {
-    let mut i = 0;
-    while i < q.len() {
-        out[i] = p[q[i] as usize];
-        i += 1;
+    let mut out = [0; N];
+    for (i, o) in out.iter_mut().enumerate() {
+        *o = p[q[i] as usize];
     }
+    out
 }
 
 // The twists of `t` at the places that `q` names, and those of `s` on top, modulo `k`.
-pub fn twist(t: &[u8], q: &[u8], s: &[u8], k: u8, out: &mut [u8])
-    requires q_len { (length q.now ≡ length out.old) × (length s.now ≡ length out.old) }
+pub fn twist<const N: usize>(t: &[u8], q: &[u8; N], s: &[u8; N], k: u8) -> [u8; N]
     requires under { Under (length t.now) q.now }
     requires under_2 { Under k t.now × Under k s.now × (0 < k) × (k ≤ 3) }
-    ensures { out.new ≡ twisted k t.now q.now s.now }
+    ensures { result ≡ twisted k t.now q.now s.now }
 {
-    let mut i = 0;
-    while i < q.len() {
-        out[i] = (t[q[i] as usize] + s[i]) % k;
-        i += 1;
+    let mut out = [0; N];
+    for (i, o) in out.iter_mut().enumerate() {
+        *o = (t[q[i] as usize] + s[i]) % k;
     }
+    out
 }

@@ -4,13 +4,13 @@
 ghost use Rattle.std.specs.Prelude.{◌≡◌};
 ghost use Rattle.calls.specs.Calls.{Leaves, mul_call, move_call, moves_call, solved_call, solvable_call, counts_call, inverse_move_call, of_two_call};
 ghost use Rattle.coordinate.specs.Calls.{index_number, index_left, arrange_number, arrange_left};
+ghost use Rattle.refusal.specs.Refusals.{code, value_or};
 ghost use Rattle.stickers.specs.Reader.{read_plain, read_strict};
 ghost use Rattle.moves.specs.Moves.{is_inverse, is_same_layer, is_available};
 ghost use Rattle.words.specs.Answers.{parsed_text, parsed_room, written_text, written_room};
 ghost use Rattle.words.specs.Text.{text_of};
 ghost use Rattle.texts.specs.Judge.{judge_number, judge_room, judge_count};
 ghost use Rattle.texts.specs.Stickers.{read_call, picture_call};
-ghost use Rattle.texts.specs.Text.{parsed_number, parsed_count, written_number, written_count};
 ghost use Rattle.table_calls.specs.Calls.{table_number, table_left, block_number, block_left, PruneCall, PairsCall, PrunesCall, CheckCall};
 ghost use Rattle.search_calls.specs.Calls.{solve_number, first_left, second_left};
 
@@ -119,9 +119,9 @@ pub extern "C" fn tsunghawi_picture(cube: &[u8], out: &mut [u8]) -> u8
 // The moves of a text, in the first places of `list`, and how many they are.
 #[unsafe(no_mangle)]
 pub extern "C" fn tsunghawi_scramble_from_str(text: &[u8], list: &mut [u8], count: &mut usize) -> u8
-    ensures value { result ≡ parsed_number (parsed_text text.now list.old) }
+    ensures value { result ≡ code (parsed_text text.now list.old) }
     ensures list_after { list.new ≡ parsed_room text.now list.old }
-    ensures count_after { count.new ≡ parsed_count (parsed_text text.now list.old) count.old }
+    ensures count_after { count.new ≡ value_or count.old (parsed_text text.now list.old) }
 {
     unit::tsunghawi_scramble_from_str(text, list, count)
 }
@@ -129,9 +129,9 @@ pub extern "C" fn tsunghawi_scramble_from_str(text: &[u8], list: &mut [u8], coun
 // The text of a list of moves, in the first bytes of `text`, and how many they are.
 #[unsafe(no_mangle)]
 pub extern "C" fn tsunghawi_scramble_to_str(list: &[u8], text: &mut [u8], count: &mut usize) -> u8
-    ensures value { result ≡ written_number (written_text list.now (text_of list.now) text.old) }
+    ensures value { result ≡ code (written_text list.now (text_of list.now) text.old) }
     ensures text_after { text.new ≡ written_room list.now (text_of list.now) text.old }
-    ensures count_after { count.new ≡ written_count (written_text list.now (text_of list.now) text.old) count.old }
+    ensures count_after { count.new ≡ value_or count.old (written_text list.now (text_of list.now) text.old) }
 {
     unit::tsunghawi_scramble_to_str(list, text, count)
 }

@@ -1,15 +1,17 @@
 -- The 18 words, and the number of a word. What is said of each move is computed once for all 18. Assumes nothing.
 use mathlib.Core.Path.{◌≡◌, refl, sym, ap, ap₂, ◌∙◌}
-use mathlib.Core.Bool.{Bool, true, false, ◌&&◌}
+use mathlib.Core.Bool.{Bool, true, false, cond, ◌&&◌}
 use mathlib.Core.List.{List, [], ◌∷◌, map}
 use Prim.Native.Nat.{ℕ, zero, suc, ◌+◌, ◌-◌, ◌*◌, ◌/◌, ◌%◌, ◌≤◌, ◌<◌}
 use native.Mathlib.Nat.{le_of_suc-le-suc, not-suc-le-zero}
 use native.Mathlib.Omega.{arith}
 use lib.Dec.{ltb, leb, eqb}
-use lib.ListN.{length, get_or, drop, get_or-map, drop_of_length-le}
-use borrow.Author.Tests.{eqb-true, ltb-true, leb-true}
+use lib.ListN.{length, get_or, get_or-map}
+use borrow.Author.Tests.{eqb-true, eqb-false, eq-eqb, ne_eqb, ltb-true, ltb-false, leb-true}
+use Rattle.std.specs.Prelude.{Some, None}
+use Rattle.std.specs.List.{position, position_or_len}
+use Rattle.std.proofs.lemmas.List.Recursion.{is_position_or_len}
 use Rattle.base.specs.Lists.{pick, range, same_list}
-use Rattle.base.proofs.Steps.{next}
 use Rattle.base.proofs.Tests.{and-true, below_true, same_list-is}
 use Rattle.words.specs.Text.{letters, marks, word_of, place, number_of}
 
@@ -34,20 +36,41 @@ module _ {A : Type 0} (p : A → Bool) where
       go true f e l = e
       go false f e l = f (le_of_suc-le-suc l)
 
-module _ (p : ℕ → Bool) (s : List ℕ) (i : ℕ) where
-  place_at : (b : Bool) → i < length s → p (get_or s i 0) ≡ b → place p (drop i s) ≡ pick b 0 (suc (place p (drop (i + 1) s)))
-  unfolding place
-  place_at b h e = ap (place p) (next s i h) ∙ ap (λ (t : Bool). pick t 0 (suc (place p (drop (i + 1) s)))) e
+pub either-way : (a b : ℕ) → eqb a b ≡ eqb b a
+either-way a b = go (eqb a b) refl
+  where
+    go : (t : Bool) → eqb a b ≡ t → t ≡ eqb b a
+    go true e = sym (eq-eqb b a (sym (eqb-true a b e)))
+    go false e = sym (ne_eqb b a (λ h. eqb-false a b e (sym h)))
 
-  pub place-stop : i < length s → p (get_or s i 0) ≡ true → place p (drop i s) ≡ 0
-  place-stop h e = place_at true h e
+-- the library's place of the first byte b
+pub first-is : (b : ℕ) (xs : List ℕ) → place (eqb b) xs ≡ position_or_len (λ x. eqb x b) xs
+unfolding place
+first-is b xs = is_position_or_len (place (eqb b)) (λ x. eqb x b) refl (λ x ys. ap (λ (t : Bool). pick t 0 (suc (place (eqb b) ys))) (either-way b x) ∙ go (eqb x b) (place (eqb b) ys)) xs
+  where
+    go : (t : Bool) (n : ℕ) → pick t 0 (suc n) ≡ cond t 0 (1 + n)
+    go true n = refl
+    go false n = omega arith
 
-  pub place-step : i < length s → p (get_or s i 0) ≡ false → place p (drop i s) ≡ suc (place p (drop (i + 1) s))
-  place-step h e = place_at false h e
+pub first-some : (b i : ℕ) (xs : List ℕ) → position (λ x. eqb x b) xs ≡ Some i → (place (eqb b) xs ≡ i) × (i < length xs)
+first-some b i xs e = go (ltb n (length xs)) refl e
+  where
+    n : ℕ
+    n = position_or_len (λ x. eqb x b) xs
 
-  pub place_end : length s ≤ i → place p (drop i s) ≡ 0
-  unfolding place
-  place_end h = ap (place p) (drop_of_length-le s h)
+    go : (t : Bool) → ltb n (length xs) ≡ t → cond t (Some n) None ≡ Some i → (place (eqb b) xs ≡ i) × (i < length xs)
+    go true l q = let m : n ≡ i = cc in (first-is b xs ∙ m, omega (arith, ltb-true n (length xs) l))
+    go false l q = cc
+
+pub first-none : (b : ℕ) (xs : List ℕ) → position (λ x. eqb x b) xs ≡ None → length xs ≤ place (eqb b) xs
+first-none b xs e = go (ltb n (length xs)) refl e
+  where
+    n : ℕ
+    n = position_or_len (λ x. eqb x b) xs
+
+    go : (t : Bool) → ltb n (length xs) ≡ t → cond t (Some n) None ≡ None → length xs ≤ place (eqb b) xs
+    go true l q = cc
+    go false l q = omega (arith, first-is b xs, ltb-false n (length xs) l)
 
 -- ---- the number of a word
 

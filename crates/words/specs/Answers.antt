@@ -1,15 +1,11 @@
 -- What the public functions answer, and what the lent slice holds after them. Assumes nothing: these are definitions.
-use Rattle.std.specs.Prelude.{List, ℕ, leb, eqb, length}
+use Rattle.std.specs.Prelude.{List, ℕ, leb, eqb, length, Result}
 use Rattle.std.proofs.Math.Seq.{paste}
 use Rattle.base.specs.Lists.{pick, in_range}
-use Rattle.moves.specs.Answers.{counted}
-use Rattle.moves.specs.Moves.{move_refusal}
-use Rattle.moves.specs.declared.Number.{Number}
+use Rattle.refusal.specs.declared.Refusal.{Refusal}
+use Rattle.refusal.specs.Refusals.{answered}
+use Rattle.moves.specs.Moves.{move_refusal, moves_refusal}
 use Rattle.words.specs.Text.{number_of, parse}
-use Rattle.words.specs.declared.Parsed.{Parsed}
-use Rattle.words.specs.declared.Parsed.TheVariants as parsed
-use Rattle.words.specs.declared.Written.{Written}
-use Rattle.words.specs.declared.Written.TheVariants as written
 
 -- out in the places of room from `at` on; the other places are unchanged
 abbrev pub over : List ℕ → ℕ → List ℕ → List ℕ
@@ -26,29 +22,23 @@ room_after n out room = pick (eqb n 0) (over room 0 out) room
 -- ---- the public functions, each by its name in the Rust
 
 -- `Move::from_str`
-abbrev pub parsed_move : List ℕ → Number
-parsed_move word = counted (move_refusal (number_of word)) (number_of word)
+abbrev pub parsed_move : List ℕ → Result ℕ Refusal
+parsed_move word = answered (move_refusal (number_of word)) (number_of word)
 
 -- how many moves there are; "text that isn't a move list" is 7
-unfoldable pub moves_counted : List ℕ → Parsed
-moves_counted ms = pick (in_range 18 ms) (parsed.Moves (length ms)) (parsed.Refused 7)
+unfoldable pub moves_counted : List ℕ → Result ℕ Refusal
+moves_counted ms = answered (moves_refusal ms) (length ms)
 
 -- `scramble_from_str`: a count of moves or a refusal, and the lent room after it
-unfoldable pub parsed_as : ℕ → ℕ → Parsed
-parsed_as n k = pick (eqb n 0) (parsed.Moves k) (parsed.Refused n)
-
-abbrev pub parsed_text : List ℕ → List ℕ → Parsed
-parsed_text text room = parsed_as (refusal (parse text) (parse text) room) (length (parse text))
+abbrev pub parsed_text : List ℕ → List ℕ → Result ℕ Refusal
+parsed_text text room = answered (refusal (parse text) (parse text) room) (length (parse text))
 
 abbrev pub parsed_room : List ℕ → List ℕ → List ℕ
 parsed_room text room = room_after (refusal (parse text) (parse text) room) (parse text) room
 
 -- `Display` of a move, where out is its word, and the text of a list, where out is its text
-unfoldable pub written_as : ℕ → ℕ → Written
-written_as n k = pick (eqb n 0) (written.Bytes k) (written.Refused n)
-
-abbrev pub written_text : List ℕ → List ℕ → List ℕ → Written
-written_text ms out room = written_as (refusal ms out room) (length out)
+abbrev pub written_text : List ℕ → List ℕ → List ℕ → Result ℕ Refusal
+written_text ms out room = answered (refusal ms out room) (length out)
 
 abbrev pub written_room : List ℕ → List ℕ → List ℕ → List ℕ
 written_room ms out room = room_after (refusal ms out room) out room

@@ -3,11 +3,11 @@ use Rattle.std.proofs.Common.{arith}
 use Rattle.checksum.proofs.Turns.{turn-greatest, end-greatest}
 use Rattle.checksum.proofs.greatest.Goals as goal
 
--- both ways of the `if` at once
-pub loop-i-preserved : goal.loop-i-preserved
-loop-i-preserved c =
-    let e = turn-greatest c.args.s.now c.loop-i.i (omega arith) c.loop-i.most in
-    grind (arith, e, c.loop-i.invariant.1)
+pub loop-x-preserved : goal.loop-x-preserved
+loop-x-preserved c =
+    let l = c.loop-x in
+    let e = turn-greatest c.args.s.now l.x-index (omega arith) l.most in
+    grind (arith, e, l.invariant)
 
 pub returns : goal.returns
-returns c = omega (arith, end-greatest c.args.s.now c.loop-i.i (omega arith), c.loop-i.invariant.1)
+returns c = omega (arith, end-greatest c.args.s.now c.loop-x.x-index (omega arith), c.loop-x.invariant)

@@ -1,10 +1,7 @@
 -- `checksum::greatest` meets its contract. Assumes nothing.
-use Rattle.std.proofs.Common.{◌≡◌, ◌-◌, ◌≤◌, max, length, drop}
+use Rattle.std.proofs.Common.{◌≡◌, max, drop}
 use Rattle.checksum.specs.Sum.{greatest_of}
 use Rattle.checksum.proofs.greatest.Given as goal
 
-abbrev pub invariant-loop-i : goal.invariant-loop-i
-invariant-loop-i l = (l.i ≤ length l.s) × (max l.most (greatest_of (drop l.i l.s)) ≡ greatest_of l.s)
-
-abbrev pub decreases-loop-i : goal.decreases-loop-i
-decreases-loop-i l = length l.s - l.i
+abbrev pub invariant-loop-x : goal.invariant-loop-x
+invariant-loop-x l = max l.most (greatest_of (drop l.x-index l.s)) ≡ greatest_of l.s

@@ -4,8 +4,11 @@ use Rattle.checksum.specs.Sum.{fnv_from}
 use Rattle.checksum.proofs.Turns.{turn8, end8}
 use Rattle.checksum.proofs.sum8.Goals as goal
 
-pub loop-i-preserved : goal.loop-i-preserved
-loop-i-preserved c = (omega arith, ap (λ x. fnv_from x (drop (c.loop-i.i + 1) c.args.s.now)) c.step-sum.ensures ∙ turn8 c.args.s.now c.loop-i.i (omega arith) c.loop-i.sum ∙ c.loop-i.invariant.1)
+pub loop-x-preserved : goal.loop-x-preserved
+loop-x-preserved c =
+    let s = c.args.s.now in
+    let l = c.loop-x in
+    ap (λ x. fnv_from x (drop (l.x-index + 1) s)) c.step-sum.ensures ∙ turn8 s l.x-index (omega arith) l.sum ∙ l.invariant
 
 pub returns : goal.returns
-returns c = sym (end8 c.args.s.now c.loop-i.i (omega arith) c.loop-i.sum) ∙ c.loop-i.invariant.1
+returns c = sym (end8 c.args.s.now c.loop-x.x-index (omega arith) c.loop-x.sum) ∙ c.loop-x.invariant

@@ -5,7 +5,7 @@ use Prim.Native.Nat.{ℕ, ◌+◌, ◌*◌}
 use native.Mathlib.Nat.{zero-add}
 use native.Mathlib.Numerals.{add-one}
 use native.Mathlib.Omega.{arith}
-use lib.ListN.{get_or, set, length-set}
+use lib.ListN.{get_or, set}
 use lib.Seq.{paste, paste-suc}
 use Rattle.replay.specs.Record.{unhexed}
 use Rattle.replay.proofs.Record.{nibble-le, unhexed-length, unhexed-at}
@@ -24,12 +24,8 @@ loop-i-preserved c =
     let s = a.text.now in
     let o = a.out.now in
     let v : c.nibble.result * 16 + c.nibble-in-loop-i.result ≡ get_or (unhexed s) l.i 0 =
-    ap₂ (λ (x y : ℕ). x * 16 + y) c.nibble.ensures c.nibble-in-loop-i.ensures ∙ sym (unhexed-at s l.i (omega arith)) in (
-      l.invariant.0,
-      omega arith,
-      length-set l.out l.i _ ∙ l.invariant.2,
-      ap₂ (λ (t : List ℕ) (x : ℕ). set t l.i x) l.invariant.3 v
-          ∙ ap (λ (k : ℕ). set (paste o 0 (unhexed s) l.i) k (get_or (unhexed s) l.i 0)) (sym (zero-add l.i))
-          ∙ paste-suc o 0 (unhexed s) l.i 0 (omega arith) (omega (arith, unhexed-length s))
-          ∙ ap (paste o 0 (unhexed s)) (sym (add-one l.i)),
-    )
+    ap₂ (λ (x y : ℕ). x * 16 + y) c.nibble.ensures c.nibble-in-loop-i.ensures ∙ sym (unhexed-at s l.i (omega arith)) in
+    ap₂ (λ (t : List ℕ) (x : ℕ). set t l.i x) l.invariant v
+    ∙ ap (λ (k : ℕ). set (paste o 0 (unhexed s) l.i) k (get_or (unhexed s) l.i 0)) (sym (zero-add l.i))
+    ∙ paste-suc o 0 (unhexed s) l.i 0 (omega arith) (omega (arith, unhexed-length s))
+    ∙ ap (paste o 0 (unhexed s)) (sym (add-one l.i))

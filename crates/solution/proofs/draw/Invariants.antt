@@ -1,14 +1,9 @@
 -- `solution::draw` meets its contract. At the head of the loop, what is left of the drawing is to be written behind what is. Assumes nothing.
 use mathlib.Core.Path.{◌≡◌}
-use Prim.Native.Nat.{◌-◌, ◌≤◌}
-use lib.ListN.{length}
 use Rattle.words.specs.Answers.{over}
 use Rattle.solution.specs.Drawing.{drawing}
 use Rattle.solution.proofs.Stickers.{shown_from}
 use Rattle.solution.proofs.draw.Given as goal
 
 abbrev pub invariant-loop-i : goal.invariant-loop-i
-invariant-loop-i l = (l.i ≤ 159) × (length l.out ≡ length l.initial.out) × (over l.out l.i (shown_from l.s l.i) ≡ over l.initial.out 0 (drawing l.s))
-
-abbrev pub decreases-loop-i : goal.decreases-loop-i
-decreases-loop-i l = 159 - l.i
+invariant-loop-i l = over l.out l.i (shown_from l.s l.i) ≡ over l.initial.out 0 (drawing l.s)

@@ -4,11 +4,9 @@ use mathlib.Core.List.{List}
 use Prim.Native.Nat.{ℕ, ◌+◌, ◌-◌}
 use lib.ListN.{length, take, drop}
 use lib.Seq.{length-take-le}
-use Rattle.cubie.specs.declared.CubeAnswer.{CubeAnswer}
 use Rattle.cubie.specs.declared.CubieCube.{CubieCube}
-use Rattle.cubie.proofs.Answers.{was-good, good-cube}
+use Rattle.refusal.proofs.Laws.{given}
 use Rattle.stickers.specs.Reader.{cube_read, strict_refusal, read_strict}
-use Rattle.stickers.proofs.Refusals.{cube-refused}
 use Rattle.lines.specs.Lines.{first_line, after_line, line, refused_word, index_of}
 use Rattle.lines.proofs.Parts.{to_the_end}
 use Rattle.solution.specs.Request.{limit_text}
@@ -25,22 +23,21 @@ returns-then-input-gt1024 c = record { value = c.print_refused.ensures.0 ∙ ap 
 pub slice_bounds-read_strict-end : goal.slice_bounds-read_strict-end
 slice_bounds-read_strict-end c = sym (length-take-le c.find-end.result c.args.input.now c.find-end.ensures.within)
 
-pub returns-in-Refused : goal.returns-in-Refused
-returns-in-Refused c =
+pub returns-in-Err : goal.returns-in-Err
+returns-in-Err c =
     let a = c.args in
     let s = a.input.now in
-    let at : c.find-end.result ≡ index_of 10 s = c.find-end.ensures.value in
-    let read : c.read_strict-read.result ≡ read_strict (first_line s) = c.read_strict-read.ensures ∙ ap (λ (k : ℕ). read_strict (take k s)) at in
-    let r = cube-refused (strict_refusal (first_line s)) c.in-Refused.n (cube_read (first_line s)) (sym (ap (λ (x : CubeAnswer). x.verdict) read) ∙ c.in-Refused.is) in record { value = c.print_refused-in-Refused.ensures.0 ∙ ap (λ (n : ℕ). printed_as (line refused_word n)) r.1 ∙ ap printed_as (sym (solution-refused s a.moves.now a.prunes.now c.if-input-gt1024.false r.0)); len_bound = c.print_refused-in-Refused.ensures.1 }
+    let e = ap (λ (k : ℕ). read_strict (take k s)) (sym c.find-end.ensures.value) ∙ sym c.in-Err.ensures in
+    record { value = c.print_refused-in-Err.ensures.0 ∙ ap printed_as (sym (solution-refused s a.moves.now a.prunes.now c.in-Err.r c.if-input-gt1024.false e)); len_bound = c.print_refused-in-Err.ensures.1 }
 
-pub returns-in-Good : goal.returns-in-Good
-returns-in-Good c =
+pub returns-in-Ok : goal.returns-in-Ok
+returns-in-Ok c =
     let a = c.args in
     let s = a.input.now in
     let at : c.find-end.result ≡ index_of 10 s = c.find-end.ensures.value in
-    let read : c.read_strict-read.result ≡ read_strict (first_line s) = c.read_strict-read.ensures ∙ ap (λ (k : ℕ). read_strict (take k s)) at in
-    let z = was-good (strict_refusal (first_line s)) (cube_read (first_line s)) (sym (ap (λ (x : CubeAnswer). x.verdict) read) ∙ c.in-Good.is) in
-    let cube = ap (λ (x : CubeAnswer). x.cube) read ∙ good-cube (strict_refusal (first_line s)) (cube_read (first_line s)) z in
+    let e = ap (λ (k : ℕ). read_strict (take k s)) (sym at) ∙ sym c.in-Ok.ensures in
+    let g = given (strict_refusal (first_line s)) (cube_read (first_line s)) c.in-Ok.cube e in
     let start = c.text_start-start.result in
     let rest : take (length s - start) (drop start s) ≡ after_line s = to_the_end s start ∙ c.text_start-start.ensures.1 ∙ ap (λ (k : ℕ). drop (k + 1) s) at in
-    let same = ap₂ (λ (x : CubieCube) (l : List ℕ). printed_as (limit_text x l a.moves.now a.prunes.now)) cube rest in record { value = c.with_cube.ensures.0 ∙ same ∙ ap printed_as (sym (solution-good s a.moves.now a.prunes.now c.if-input-gt1024.false z)); len_bound = c.with_cube.ensures.1 }
+    let same = ap₂ (λ (x : CubieCube) (l : List ℕ). printed_as (limit_text x l a.moves.now a.prunes.now)) (sym g.1) rest in
+    record { value = c.with_cube.ensures.0 ∙ same ∙ ap printed_as (sym (solution-good s a.moves.now a.prunes.now c.if-input-gt1024.false g.0)); len_bound = c.with_cube.ensures.1 }

@@ -1,41 +1,38 @@
 -- `texts::judge_word` meets its contract. Assumes nothing.
-use mathlib.Core.Path.{ap, ◌∙◌}
-use native.Mathlib.Omega.{arith}
-use Rattle.judgement.specs.declared.Score.{Score}
-use Rattle.judgement.proofs.Refusals.{few-moves}
+use Rattle.std.proofs.Common.{arith, sym, ap, ◌∙◌, ℕ, ◌+◌, ◌*◌}
 use Rattle.texts.specs.Judge.{score_word}
-use Rattle.texts.proofs.Judged.{word-refused, word-yes, word-no}
+use Rattle.texts.proofs.Judged.{few-of, word-refused, word-yes, word-no}
 use Rattle.texts.proofs.judge_word.Goals as goal
+use Rattle.texts.proofs.judge_word.Goals.{then-score, else-score}
 
-pub returns-then-score-ne0 : goal.returns-then-score-ne0
-returns-then-score-ne0 c = word-refused c.score-score.result c.if-score-ne0.true ∙ ap score_word c.score-score.ensures
+pub returns-in-Err : goal.returns-in-Err
+returns-in-Err c = c.from-in-Err.ensures ∙ c.from.ensures ∙ sym (word-refused c.in-Err.r) ∙ ap score_word c.in-Err.ensures
 
-pub overflow_mul-word : goal.overflow_mul-word
-overflow_mul-word c =
-    let few = few-moves c.args.input.now in
-    let e = c.score-score.ensures in
-    omega (arith, ap (λ (k : Score). k.moves) e, few.0)
+pub overflow_mul-result : goal.overflow_mul-result
+overflow_mul-result c =
+    let few = few-of c.args.input.now c.in-Ok.score (sym c.in-Ok.ensures) in
+    omega (arith, few.0)
 
-pub overflow_mul-word-2 : goal.overflow_mul-word-2
-overflow_mul-word-2 c =
-    let few = few-moves c.args.input.now in
-    let e = c.score-score.ensures in
-    omega (arith, ap (λ (k : Score). k.strokes) e, few.1)
-
-pub overflow_add-word : goal.overflow_add-word
-overflow_add-word c =
-    let few = few-moves c.args.input.now in
-    let e = c.score-score.ensures in
-    omega (arith, ap (λ (k : Score). k.moves) e, ap (λ (k : Score). k.strokes) e, few.0, few.1)
+pub overflow_mul-result-in-Ok : goal.overflow_mul-result-in-Ok
+overflow_mul-result-in-Ok c =
+    let few = few-of c.args.input.now c.in-Ok.score (sym c.in-Ok.ensures) in
+    omega (arith, few.1)
 
 pub overflow_add-result : goal.overflow_add-result
 overflow_add-result c =
-    let few = few-moves c.args.input.now in
-    let e = c.score-score.ensures in
-    omega (arith, ap (λ (k : Score). k.moves) e, ap (λ (k : Score). k.strokes) e, few.0, few.1)
+    let few = few-of c.args.input.now c.in-Ok.score (sym c.in-Ok.ensures) in
+    omega (arith, few.0, few.1)
 
-pub returns-then-score : goal.returns-then-score
-returns-then-score c = word-yes c.score-score.result c.if-score-ne0.false c.if-score.true ∙ ap score_word c.score-score.ensures
+pub overflow_add-result-in-Ok : goal.overflow_add-result-in-Ok
+overflow_add-result-in-Ok c =
+    let few = few-of c.args.input.now c.in-Ok.score (sym c.in-Ok.ensures) in
+    elim c.if-score.branch [ then-score w ↦ omega (arith, few.0, few.1) | else-score w ↦ omega (arith, few.0, few.1) ]
 
-pub returns : goal.returns
-returns c = word-no c.score-score.result c.if-score-ne0.false c.if-score.false ∙ ap score_word c.score-score.ensures
+pub returns-after-score : goal.returns-after-score
+returns-after-score c =
+    let k = c.in-Ok.score in
+    let told = ap score_word c.in-Ok.ensures in
+    elim c.if-score.branch [
+      | then-score w ↦ ap (λ (n : ℕ). 65536 * k.moves + 4294967296 * k.strokes + n) w.solved-is ∙ word-yes k w.if-score.true ∙ told
+      | else-score w ↦ ap (λ (n : ℕ). 65536 * k.moves + 4294967296 * k.strokes + n) w.solved-is ∙ omega arith ∙ word-no k w.if-score.false ∙ told
+    ]

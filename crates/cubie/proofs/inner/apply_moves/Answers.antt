@@ -12,27 +12,25 @@ use Rattle.cubie.proofs.Turns.{turn-range}
 use borrow.Author.Rules.{rules}
 use Rattle.cubie.proofs.inner.apply_moves.Goals as goal
 
-pub loop-i-init : goal.loop-i-init
-loop-i-init c = (omega arith, in-range c.args.c c.requires.0 (search rules) (search rules) (search rules) (search rules), refl)
+pub loop-m-init : goal.loop-m-init
+loop-m-init c = (in-range c.args.c c.requires.0 (search rules) (search rules) (search rules) (search rules), refl)
 
 pub apply_move-state-requires : goal.apply_move-state-requires
-apply_move-state-requires c = (no-refusal c.loop-i.invariant.1, under_at 18 c.args.moves.now c.loop-i.i c.requires.1 c.loop-i-test.true)
+apply_move-state-requires c = (no-refusal c.loop-m.invariant.0, under_at 18 c.args.moves.now _ c.requires.1 (omega arith))
 
-pub loop-i-preserved : goal.loop-i-preserved
+pub loop-m-preserved : goal.loop-m-preserved
 unfolding apply_moves
-loop-i-preserved c =
+loop-m-preserved c =
     let ms = c.args.moves.now in
-    let l = c.loop-i in
-    let h = c.loop-i-test.true in
-    let e = c.apply_move-state.ensures in
-    let low = under_at 18 ms l.i c.requires.1 h in (
-      omega arith,
-      rw e (turn-range l.invariant.1 (get_or ms l.i 0) low),
-      ap (λ (d : CubieCube). apply_moves d (drop (l.i + 1) ms)) e ∙ sym (ap (apply_moves l.state) (next ms l.i h)) ∙ l.invariant.2,
+    let l = c.loop-m in
+    let h = c.loop-m-test.true in
+    let e = c.apply_move-state.ensures in (
+      rw e (turn-range l.invariant.0 (get_or ms l.m-index 0) (under_at 18 ms l.m-index c.requires.1 h)),
+      ap (λ (d : CubieCube). apply_moves d (drop (l.m-index + 1) ms)) e ∙ sym (ap (apply_moves l.state) (next ms l.m-index h)) ∙ l.invariant.1,
     )
 
 pub returns : goal.returns
 unfolding apply_moves
 returns c =
-    let l = c.loop-i in
-    sym (ap (apply_moves l.state) (drop_of_length-le c.args.moves.now c.loop-i-test.false)) ∙ l.invariant.2
+    let l = c.loop-m in
+    sym (ap (apply_moves l.state) (drop_of_length-le c.args.moves.now c.loop-m-test.false)) ∙ l.invariant.1

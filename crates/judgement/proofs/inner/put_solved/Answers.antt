@@ -10,10 +10,10 @@ pub returns-then-solved : goal.returns-then-solved
 unfolding solved_line
 returns-then-solved c = rw c.if-solved.true c.put_bytes.ensures
 
-pub put_bytes-requires-2 : goal.put_bytes-requires-2
+pub put_bytes-requires-else-solved : goal.put_bytes-requires-else-solved
 unfolding solved_line
-put_bytes-requires-2 c = rw c.if-solved.false at c.requires
+put_bytes-requires-else-solved c = rw c.if-solved.false at c.requires
 
-pub returns : goal.returns
+pub returns-else-solved : goal.returns-else-solved
 unfolding solved_line
-returns c = rw c.if-solved.false c.put_bytes-2.ensures
+returns-else-solved c = rw c.if-solved.false c.put_bytes-else-solved.ensures

@@ -1,13 +1,16 @@
--- `lines::inner::find` meets its contract. The loop keeps the answer: what is left gives the same as the whole. Assumes nothing.
-use Rattle.std.proofs.Common.{arith}
-use Rattle.lines.proofs.Parts.{find_here, find_on, find_end}
+-- `lines::inner::find` meets its contract. Assumes nothing.
+use mathlib.Core.Logic.{◌≢◌}
+use mathlib.Core.Path.{◌≡◌, sym, ◌∙◌}
+use borrow.Author.Rules.{rules}
+use borrow.Author.Tests.{tests}
+use Rattle.std.proofs.lemmas.Iterator.{YieldsList-from_slice, IsFirst-from_position, index_from_first}
+use Rattle.lines.specs.Lines.{index_of}
+use Rattle.lines.proofs.Parts.{found-here, found-later, found-nowhere}
 use Rattle.lines.proofs.inner.find.Goals as goal
 
-pub returns-then-s-i : goal.returns-then-s-i
-returns-then-s-i c = omega (arith, find_here c.args.b c.args.s.now c.loop-i.i c.loop-i-test.true c.if-s-i.true, c.loop-i.invariant.1)
-
-pub loop-i-preserved : goal.loop-i-preserved
-loop-i-preserved c = (omega arith, omega (arith, find_on c.args.b c.args.s.now c.loop-i.i c.loop-i-test.true c.if-s-i.false, c.loop-i.invariant.1))
-
-pub returns : goal.returns
-returns c = omega (arith, find_end c.args.b c.args.s.now c.loop-i.i c.loop-i-test.false, c.loop-i.invariant.1)
+pub returns-clause-value : goal.returns-clause-value
+returns-clause-value c =
+    let s = c.args.s.now in
+    let b = c.args.b in
+    let first = IsFirst-from_position _ _ c.position.result (λ x. x ≡ b) (λ x. x ≢ b) c.position.ensures.ran (YieldsList-from_slice s cc) (λ x q k. search (rules, tests)) (λ x q k. search (rules, tests)) in
+    c.unwrap_or.ensures ∙ sym (index_from_first (index_of b) (λ x. x ≡ b) (λ x. x ≢ b) (found-nowhere b) (found-here b) (found-later b) s c.position.result first)

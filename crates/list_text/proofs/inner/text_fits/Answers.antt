@@ -13,17 +13,17 @@ use mathlib.Core.List.{List}
 use Rattle.list_text.proofs.inner.text_fits.Goals as goal
 
 pub overflow_add-need : goal.overflow_add-need
-overflow_add-need c = omega (arith, c.word_len-need.ensures, word-short (get_or c.args.moves.now c.loop-i.i 0))
+overflow_add-need c = omega (arith, c.word_len-need.ensures, word-short (get_or c.args.moves.now c.loop-m.m-index 0))
 
 pub returns-then-left-need : goal.returns-then-left-need
 returns-then-left-need c =
     let ms = c.args.moves.now in
-    let l = c.loop-i in
-    let step = total-step need ms l.i c.loop-i-test.true in
-    sym (lt-leb (total need (drop l.i ms)) l.left (omega (arith, c.word_len-need.ensures))) ∙ l.invariant.2 ∙ text-fits ms c.args.room
+    let l = c.loop-m in
+    let step = total-step need ms l.m-index (omega arith) in
+    sym (lt-leb (total need (drop l.m-index ms)) l.left (omega (arith, c.word_len-need.ensures))) ∙ l.invariant.1 ∙ text-fits ms c.args.room
 
 pub returns : goal.returns
 returns c =
     let ms = c.args.moves.now in
-    let l = c.loop-i in
-    sym (ap (λ (t : List ℕ). leb (total need t) l.left) (drop_of_length-le ms c.loop-i-test.false) ∙ leb-zero l.left) ∙ l.invariant.2 ∙ text-fits ms c.args.room
+    let l = c.loop-m in
+    sym (ap (λ (t : List ℕ). leb (total need t) l.left) (drop_of_length-le ms (omega arith)) ∙ leb-zero l.left) ∙ l.invariant.1 ∙ text-fits ms c.args.room

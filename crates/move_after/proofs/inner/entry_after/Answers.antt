@@ -1,35 +1,66 @@
--- `move_after::inner::entry_after` meets its contract. Assumes nothing.
-use mathlib.Core.Path.{◌≡◌, sym, ap, subst, ◌∙◌}
-use Prim.Native.Nat.{ℕ}
-use Rattle.base.specs.Perm.{below}
-use Rattle.numbering.specs.Coordinates.{e_combo_number, ud_ep_number, e_ep_number}
-use Rattle.move_row.specs.Tables.{table_at, Domain, moved}
-use Rattle.move_row.proofs.After.{four_below, moved-combo, moved-ud, moved-e}
-use native.Mathlib.Omega.{arith}
+-- `move_after::inner::entry_after` meets its contract: in each arm the cube is that of move m, and the arrangement is in its coordinate's domain. Assumes nothing.
+use Rattle.std.proofs.Common.{◌∙◌, arith}
+use Rattle.move_row.proofs.After.{cube-at, co-fits, eo-fits, corners-fit, edges_fit, co-after, eo-after, combo-after, cp-after, ud-after, e-after}
 use Rattle.move_after.proofs.inner.entry_after.Goals as goal
+
+pub twist-requires : goal.twist-requires
+twist-requires c =
+    (omega arith, co-fits (cube-at c.args.cubes.now c.requires.1 _ (omega arith) _) (omega arith) c.args.a.now (rw c.in-Co.is at c.requires.0))
+
+pub co_to_index-requires : goal.co_to_index-requires
+co_to_index-requires c = (co-after (cube-at c.args.cubes.now c.requires.1 _ (omega arith) _) (omega arith) c.args.a.now c.twist.ensures).0
+
+pub returns-in-Co : goal.returns-in-Co
+returns-in-Co c =
+    rw c.in-Co.is (c.co_to_index.ensures ∙ (co-after (cube-at c.args.cubes.now c.requires.1 c.args.m c.requires.2 _) c.requires.2 c.args.a.now c.twist.ensures).1)
+
+pub twist-requires-in-Eo : goal.twist-requires-in-Eo
+twist-requires-in-Eo c =
+    let e = cube-at c.args.cubes.now c.requires.1 c.args.m c.requires.2 _ in
+    (omega arith, eo-fits e c.requires.2 c.args.a.now (rw c.in-Eo.is at c.requires.0))
+
+pub eo_to_index-requires : goal.eo_to_index-requires
+eo_to_index-requires c = (eo-after (cube-at c.args.cubes.now c.requires.1 c.args.m c.requires.2 _) c.requires.2 c.args.a.now c.twist-in-Eo.ensures).0
+
+pub returns-in-Eo : goal.returns-in-Eo
+returns-in-Eo c =
+    rw c.in-Eo.is (c.eo_to_index.ensures ∙ (eo-after (cube-at c.args.cubes.now c.requires.1 c.args.m c.requires.2 _) c.requires.2 c.args.a.now c.twist-in-Eo.ensures).1)
+
+pub permute-requires : goal.permute-requires
+permute-requires c =
+    (omega arith, edges_fit (cube-at c.args.cubes.now c.requires.1 c.args.m c.requires.2 _) c.requires.2 c.args.a.now (rw c.in-ECombo.is at c.requires.0).places)
 
 pub e_combo_to_index-requires : goal.e_combo_to_index-requires
 e_combo_to_index-requires c =
-    let a = c.args in
-    let p = c.requires in
-    let d = subst (λ (t : ℕ). Domain (table_at t).kind a.a.now) c.in-2.is p.1 in
-    ap (below 4) c.edges_after.ensures ∙ four_below a.a.now a.m p.3 d
+    let e = cube-at c.args.cubes.now c.requires.1 c.args.m c.requires.2 _ in
+    (combo-after e c.requires.2 c.args.a.now (rw c.in-ECombo.is at c.requires.0) c.permute.ensures).0
 
-pub returns-in-2 : goal.returns-in-2
-returns-in-2 c =
-    let a = c.args in
-    subst (λ (t : ℕ). c.e_combo_to_index.result.0 ≡ moved (table_at t).kind a.a.now a.m) (sym c.in-2.is)
-    (c.e_combo_to_index.ensures ∙ ap e_combo_number c.edges_after.ensures ∙ sym (moved-combo a.a.now a.m))
+pub returns-in-ECombo : goal.returns-in-ECombo
+returns-in-ECombo c =
+    let e = cube-at c.args.cubes.now c.requires.1 c.args.m c.requires.2 _ in
+    let d = rw c.in-ECombo.is at c.requires.0 in
+    rw c.in-ECombo.is (c.e_combo_to_index.ensures ∙ (combo-after e c.requires.2 c.args.a.now d c.permute.ensures).1)
 
-pub returns-in-4 : goal.returns-in-4
-returns-in-4 c =
-    let a = c.args in
-    subst (λ (t : ℕ). c.ud_ep_to_index.result.0 ≡ moved (table_at t).kind a.a.now a.m) (sym c.in-4.is)
-    (c.ud_ep_to_index.ensures ∙ ap ud_ep_number c.edges_after-in-4.ensures ∙ sym (moved-ud a.a.now a.m))
+pub permute-requires-in-Cp : goal.permute-requires-in-Cp
+permute-requires-in-Cp c =
+    (omega arith, corners-fit (cube-at c.args.cubes.now c.requires.1 c.args.m c.requires.2 _) c.requires.2 c.args.a.now (rw c.in-Cp.is at c.requires.0).places)
 
-pub returns-in_default : goal.returns-in_default
-returns-in_default c =
-    let a = c.args in
-    let e : a.t ≡ 5 = omega arith in
-    subst (λ (t : ℕ). c.e_ep_to_index.result.0 ≡ moved (table_at t).kind a.a.now a.m) (sym e)
-    (c.e_ep_to_index.ensures ∙ ap e_ep_number c.edges_after-in_default.ensures ∙ sym (moved-e a.a.now a.m))
+pub returns-in-Cp : goal.returns-in-Cp
+returns-in-Cp c =
+    rw c.in-Cp.is (c.cp_to_index.ensures ∙ cp-after (cube-at c.args.cubes.now c.requires.1 c.args.m c.requires.2 _) c.requires.2 c.args.a.now c.permute-in-Cp.ensures)
+
+pub permute-requires-in-UdEp : goal.permute-requires-in-UdEp
+permute-requires-in-UdEp c =
+    (omega arith, edges_fit (cube-at c.args.cubes.now c.requires.1 c.args.m c.requires.2 _) c.requires.2 c.args.a.now (rw c.in-UdEp.is at c.requires.0).places)
+
+pub returns-in-UdEp : goal.returns-in-UdEp
+returns-in-UdEp c =
+    rw c.in-UdEp.is (c.ud_ep_to_index.ensures ∙ ud-after (cube-at c.args.cubes.now c.requires.1 c.args.m c.requires.2 _) c.requires.2 c.args.a.now c.permute-in-UdEp.ensures)
+
+pub permute-requires-in-EEp : goal.permute-requires-in-EEp
+permute-requires-in-EEp c =
+    (omega arith, edges_fit (cube-at c.args.cubes.now c.requires.1 c.args.m c.requires.2 _) c.requires.2 c.args.a.now (rw c.in-EEp.is at c.requires.0).places)
+
+pub returns-in-EEp : goal.returns-in-EEp
+returns-in-EEp c =
+    rw c.in-EEp.is (c.e_ep_to_index.ensures ∙ e-after (cube-at c.args.cubes.now c.requires.1 c.args.m c.requires.2 _) c.requires.2 c.args.a.now c.permute-in-EEp.ensures)

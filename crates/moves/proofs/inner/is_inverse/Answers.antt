@@ -1,20 +1,20 @@
 -- `moves::inner::is_inverse` meets its contract. Assumes nothing.
-use borrow.Author.Tests.{eq-eqb, ne_eqb}
+use Rattle.std.proofs.Common.{arith}
 use Rattle.moves.specs.Moves.{is_inverse}
 use Rattle.moves.proofs.inner.is_inverse.Goals as goal
 
-pub returns-then-a-eq0 : goal.returns-then-a-eq0
+pub returns-in-0 : goal.returns-in-0
 unfolding is_inverse
-returns-then-a-eq0 c = simp (eq-eqb _ 0 c.if-a-eq0.true)
+returns-in-0 c = grind arith
 
-pub returns-then-a-eq2 : goal.returns-then-a-eq2
+pub returns-in-2 : goal.returns-in-2
 unfolding is_inverse
-returns-then-a-eq2 c = simp (ne_eqb _ 0 c.if-a-eq0.false, eq-eqb _ 2 c.if-a-eq2.true)
+returns-in-2 c = grind arith
 
-pub returns-then-a-eq4 : goal.returns-then-a-eq4
+pub returns-in-4 : goal.returns-in-4
 unfolding is_inverse
-returns-then-a-eq4 c = simp (ne_eqb _ 0 c.if-a-eq0.false, ne_eqb _ 2 c.if-a-eq2.false, eq-eqb _ 4 c.if-a-eq4.true)
+returns-in-4 c = grind arith
 
-pub returns : goal.returns
+pub returns-in_default : goal.returns-in_default
 unfolding is_inverse
-returns c = simp (ne_eqb _ 0 c.if-a-eq0.false, ne_eqb _ 2 c.if-a-eq2.false, ne_eqb _ 4 c.if-a-eq4.false)
+returns-in_default c = grind arith

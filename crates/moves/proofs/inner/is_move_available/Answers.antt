@@ -1,24 +1,13 @@
 -- `moves::inner::is_move_available` meets its contract. Assumes nothing.
-use mathlib.Core.Path.{◌≡◌, sym, ◌∙◌}
-use mathlib.Core.Bool.{true, false}
-use borrow.Author.Tests.{eq-eqb, ne_eqb}
-use Rattle.moves.specs.Moves.{is_inverse, is_available}
+use Rattle.std.proofs.Common.{arith}
+use Rattle.moves.specs.Moves.{is_available}
+use Rattle.moves.proofs.inner.is_move_available.Goals.{then-current-prev, else-current-prev}
 use Rattle.moves.proofs.inner.is_move_available.Goals as goal
 
-pub returns-then-current-prev : goal.returns-then-current-prev
+pub returns-then-not-is_inverse : goal.returns-then-not-is_inverse
 unfolding is_available
-returns-then-current-prev c = simp (eq-eqb _ _ c.if-current-prev.true)
+returns-then-not-is_inverse c = elim c.if-current-prev.branch [ then-current-prev w ↦ grind arith | else-current-prev w ↦ grind arith ]
 
-pub returns-then-is_inverse : goal.returns-then-is_inverse
+pub returns-else-not-is_inverse : goal.returns-else-not-is_inverse
 unfolding is_available
-returns-then-is_inverse c =
-    let a = c.args in
-    let e : is_inverse a.current a.prev ≡ true = sym c.is_inverse.ensures ∙ c.if-is_inverse.true in
-    simp (ne_eqb _ _ c.if-current-prev.false, e)
-
-pub returns : goal.returns
-unfolding is_available
-returns c =
-    let a = c.args in
-    let e : is_inverse a.current a.prev ≡ false = sym c.is_inverse.ensures ∙ c.if-is_inverse.false in
-    simp (ne_eqb _ _ c.if-current-prev.false, e, c.is_same_layer.ensures)
+returns-else-not-is_inverse c = elim c.if-current-prev.branch [ then-current-prev w ↦ grind arith | else-current-prev w ↦ grind arith ]

@@ -5,6 +5,3 @@ use Rattle.numbering.proofs.inner.e_combo_to_index.Given as goal
 
 abbrev pub invariant-loop-i : goal.invariant-loop-i
 invariant-loop-i l = Counted l.edge l.index l.k l.i
-
-abbrev pub decreases-loop-i : goal.decreases-loop-i
-decreases-loop-i l = l.i

@@ -5,6 +5,3 @@ use Rattle.numbering.proofs.inner.index_to_e_combo.Given as goal
 
 abbrev pub invariant-loop-i : goal.invariant-loop-i
 invariant-loop-i l = Filling l.initial.rest l.combo l.rest l.k l.i
-
-abbrev pub decreases-loop-i : goal.decreases-loop-i
-decreases-loop-i l = l.i

@@ -9,6 +9,3 @@ use Rattle.permutation.proofs.inner.fill_perm_slice.Given as goal
 
 abbrev pub invariant-loop-i : goal.invariant-loop-i
 invariant-loop-i l = (l.i ≤ l.n) × (length l.s ≡ l.n) × (l.rest ≡ l.index / fact (l.n - l.i)) × (drop l.i l.s ≡ filled l.base (l.n - l.i) l.index)
-
-abbrev pub decreases-loop-i : goal.decreases-loop-i
-decreases-loop-i l = l.i

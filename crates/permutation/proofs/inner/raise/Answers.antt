@@ -1,12 +1,18 @@
--- `permutation::inner::raise` meets its contract. The loop's invariant: the places passed are raised, the others are as they came. Assumes nothing.
+-- `permutation::inner::raise` meets its contract. Assumes nothing.
+use mathlib.Core.Path.{◌≡◌}
+use native.Mathlib.Omega.{arith}
+use lib.ListN.{length}
 use Rattle.numbering.proofs.Fill.{raise-yes, raise-no}
-use Rattle.permutation.proofs.inner.raise.Goals.{else-d-s, then-d-s}
+use Rattle.permutation.proofs.inner.raise.Goals.{else-d-x, then-d-x}
 use Rattle.permutation.proofs.inner.raise.Goals as goal
 
-pub loop-j-preserved : goal.loop-j-preserved
-loop-j-preserved c =
+pub loop-x-preserved : goal.loop-x-preserved
+loop-x-preserved c =
     let s₀ = c.args.s.now in
     let d = c.args.d in
-    let l = c.loop-j in
-    let h = c.loop-j-test.true in
-    elim c.if-d-s.branch [ then-d-s w ↦ raise-yes d l.j s₀ l.s h l.invariant.1 l.invariant.2 c.if-d-s.s w.s-is w.if-d-s.true | else-d-s w ↦ raise-no d l.j s₀ l.s h l.invariant.1 l.invariant.2 c.if-d-s.s w.s-is w.if-d-s.false ]
+    let l = c.loop-x in
+    let same : length l.s ≡ length s₀ = omega arith in
+    elim c.if-d-x.branch [
+      | then-d-x w ↦ raise-yes d l.x-index s₀ l.s (omega arith) same l.invariant c.if-d-x.s w.s-is w.if-d-x.true
+      | else-d-x w ↦ raise-no d l.x-index s₀ l.s (omega arith) same l.invariant c.if-d-x.s w.s-is w.if-d-x.false
+    ]

@@ -9,11 +9,5 @@ use Rattle.permutation.proofs.inner.slice_to_index.Given as goal
 abbrev pub invariant-loop-j : goal.invariant-loop-j
 invariant-loop-j l = (l.i < l.j) × (l.j ≤ length l.cp) × (l.index + below (get_or l.cp l.i 0) (drop l.j l.cp) ≡ l.initial.index + below (get_or l.cp l.i 0) (drop (l.i + 1) l.cp))
 
-abbrev pub decreases-loop-j : goal.decreases-loop-j
-decreases-loop-j l = length l.cp - l.j
-
 abbrev pub invariant-loop-i : goal.invariant-loop-i
 invariant-loop-i l = (l.i ≤ length l.cp) × (l.index * fact (length l.cp - l.i) + number (drop l.i l.cp) ≡ number l.cp)
-
-abbrev pub decreases-loop-i : goal.decreases-loop-i
-decreases-loop-i l = length l.cp - l.i

@@ -42,7 +42,7 @@ solve_phase1-returns-then-prune t c =
 pub solve_phase1-step_phase1-requires : goal.solve_phase1-step_phase1-requires
 solve_phase1-step_phase1-requires t c = (
   omega (arith, c.decreases, c.if-d-eq0.false),
-  (c.requires.blocks, (c.requires.below, (c.requires.d_bound, (c.requires.holds, paid _ _ _ _ _ c.if-left-eq0.false c.if-d-eq0.false ∙ sym c.prune.ensures ∙ c.if-prune.false)))),
+  (c.requires.below, (c.requires.d_bound, (c.requires.holds, paid _ _ _ _ _ c.if-left-eq0.false c.if-d-eq0.false ∙ sym c.prune.ensures ∙ c.if-prune.false))),
 )
 
 -- ---- an entry that isn't cut at once
@@ -56,11 +56,8 @@ step_phase1-walk_phase1-requires t c =
     let few = columns-few c.phase1_open-on.result in (
       omega (arith, c.decreases, c.if-d-eq0.false, few),
       (
-        c.requires.blocks,
-        (
-          (c.requires.below, subst (Under 18) (sym c.phase1_open-on.ensures) (open-under _ 18 _)),
-          ((omega (arith, c.requires.d_bound.0, c.if-d-eq0.false), c.requires.d_bound.1, c.requires.d_bound.2), c.requires.holds),
-        ),
+        (c.requires.below, subst (Under 18) (sym c.phase1_open-on.ensures) (open-under _ 18 _)),
+        ((omega (arith, c.requires.d_bound.0, c.if-d-eq0.false), c.requires.d_bound.1, c.requires.d_bound.2), c.requires.holds),
       ),
     )
 
@@ -79,15 +76,15 @@ pub walk_phase1-returns-then-set-eq0 : goal.walk_phase1-returns-then-set-eq0
 unfolding word_of Leaves1
 walk_phase1-returns-then-set-eq0 t c = gives1 (over-end _ _ _ _ _ (columns-none _ c.if-set-eq0.true)) refl (refl, refl)
 
-pub walk_phase1-returns-in-Refused : goal.walk_phase1-returns-in-Refused
+pub walk_phase1-returns-in-None : goal.walk_phase1-returns-in-None
 unfolding word_of Leaves1
-walk_phase1-returns-in-Refused t c =
+walk_phase1-returns-in-None t c =
     let first = first-is c.first_column-j.ensures c.other_columns-on.ensures in
     let low = first-low first c.requires.below.1 in
-    gives1 (refuses _ _ _ _ phase1-column _ _ _ _ first low.0 (was-refused1 _ _ _ (sym c.in-Refused.is ∙ c.next-step.ensures))) refl tt
+    gives1 (refuses _ _ _ _ phase1-column _ _ _ _ first low.0 (was-refused1 _ _ _ (sym c.in-None.is ∙ c.next.ensures))) refl tt
 
-pub walk_phase1-cut_at_once-requires-clause-below : goal.walk_phase1-cut_at_once-requires-clause-below
-walk_phase1-cut_at_once-requires-clause-below t c = made-below1 _ _ _ (sym c.in-To.is ∙ c.next-step.ensures)
+pub walk_phase1-cut_at_once-requires : goal.walk_phase1-cut_at_once-requires
+walk_phase1-cut_at_once-requires t c = made-below1 _ _ _ (sym c.in-Some.is ∙ c.next.ensures)
 
 pub walk_phase1-overflow_sub-s : goal.walk_phase1-overflow_sub-s
 walk_phase1-overflow_sub-s t c = cut-paid _ _ _ _ _ (sym c.cut_at_once.ensures ∙ c.if-cut_at_once.true)
@@ -96,7 +93,7 @@ pub walk_phase1-returns-then-cut_at_once : goal.walk_phase1-returns-then-cut_at_
 walk_phase1-returns-then-cut_at_once t c =
     let first = first-is c.first_column-j.ensures c.other_columns-on.ensures in
     let low = first-low first c.requires.below.1 in
-    let made = was-made1 _ _ _ _ (sym c.in-To.is ∙ c.next-step.ensures) in
+    let made = was-made1 _ _ _ _ (sym c.in-Some.is ∙ c.next.ensures) in
     via1 (passes _ _ _ _ phase1-column _ _ _ _ first low.0 made.0 made.1 (sym c.cut_at_once.ensures ∙ c.if-cut_at_once.true)) refl c.walk_phase1.ensures
 
 pub walk_phase1-step_phase1-r-requires : goal.walk_phase1-step_phase1-r-requires
@@ -107,65 +104,59 @@ walk_phase1-step_phase1-r-requires t c =
     let move = subst (λ (m : ℕ). m < 18) (sym c.phase1_move-m.ensures) (phase1-column _ low.0) in (
       omega (arith, c.decreases),
       (
-        c.requires.blocks,
+        subst (Below phase1) (sym c.after-z.ensures.0) (made-below1 _ _ _ (sym c.in-Some.is ∙ c.next.ensures)),
         (
-          subst (Below phase1) (sym c.after-z.ensures.0) (made-below1 _ _ _ (sym c.in-To.is ∙ c.next-step.ensures)),
-          (
-            (omega (arith, c.requires.d_bound.0), c.requires.d_bound.1, c.requires.d_bound.2),
-            ((holds_more c.requires.holds.0 _ room move, c.requires.holds.1), same-cut _ _ _ _ _ c.after-z.ensures.0 (sym c.cut_at_once.ensures ∙ c.if-cut_at_once.false)),
-          ),
+          (omega (arith, c.requires.d_bound.0), c.requires.d_bound.1, c.requires.d_bound.2),
+          ((holds_more c.requires.holds.0 _ room move, c.requires.holds.1), same-cut _ _ _ _ _ c.after-z.ensures.0 (sym c.cut_at_once.ensures ∙ c.if-cut_at_once.false)),
         ),
       ),
     )
 
-pub walk_phase1-returns-then-r-ge4294967296 : goal.walk_phase1-returns-then-r-ge4294967296
-walk_phase1-returns-then-r-ge4294967296 t c =
+pub walk_phase1-returns-then-r-ge-HIGH : goal.walk_phase1-returns-then-r-ge-HIGH
+walk_phase1-returns-then-r-ge-HIGH t c =
     let r = c.step_phase1-r in
     let first = first-is c.first_column-j.ensures c.other_columns-on.ensures in
     let low = first-low first c.requires.below.1 in
     let room : c.args.n < 31 = omega (arith, c.requires.d_bound.0, c.requires.d_bound.1) in
-    let made = was-made1 _ _ _ _ (sym c.in-To.is ∙ c.next-step.ensures) in
+    let made = was-made1 _ _ _ _ (sym c.in-Some.is ∙ c.next.ensures) in
     let left : c.args.left < 4294967296 = c.ranges.left.fits in
-    let ended = word-ended (λ l. l.1) _ _ r.ensures.word (lt_of_le_of_lt (enter1-spends _ _ _ _ _ _ _ _ _) left) c.if-r-ge4294967296.true in
+    let ended = word-ended (λ l. l.1) _ _ r.ensures.word (lt_of_le_of_lt (enter1-spends _ _ _ _ _ _ _ _ _) left) c.if-r-ge-HIGH.true in
     let all = back_done _ _ _ _ phase1-column _ _ _ first low.0 c.requires.holds.0 room c.phase1_move-m.ensures made.0 (c.after-z.ensures.0 ∙ made.1) c.after-z.ensures.1 ended.2 in
     record { word = r.ensures.word ∙ ap (word_of (λ l. l.1)) (ended.2 ∙ sym all); paths = over1 _ _ _ _ _ _ _ _ ended.2 all (omega arith) r.ensures.paths }
 
-pub walk_phase1-walk_phase1-requires-in-To : goal.walk_phase1-walk_phase1-requires-in-To
-walk_phase1-walk_phase1-requires-in-To t c =
+pub walk_phase1-walk_phase1-requires-in-Some : goal.walk_phase1-walk_phase1-requires-in-Some
+walk_phase1-walk_phase1-requires-in-Some t c =
     let r = c.step_phase1-r in
     let first = first-is c.first_column-j.ensures c.other_columns-on.ensures in
     let low = first-low first c.requires.below.1 in
     let room : c.args.n < 31 = omega (arith, c.requires.d_bound.0, c.requires.d_bound.1) in
-    let still_open = word-open (λ l. l.1) _ _ r.ensures.word c.if-r-ge4294967296.false in
+    let still_open = word-open (λ l. l.1) _ _ r.ensures.word c.if-r-ge-HIGH.false in
     let both = open1 _ still_open r.ensures.paths in
     let same = ap (λ (p : List ℕ). set p c.args.n 0) both.0 ∙ popped c.requires.holds.0 _ room in (
       omega (arith, c.decreases, ap length first),
       (
-        c.requires.blocks,
+        (c.requires.below.0, low.1),
         (
-          (c.requires.below.0, low.1),
+          c.requires.d_bound,
           (
-            c.requires.d_bound,
-            (
-              subst (λ (q : List ℕ). Holds q c.args.n) (sym same) c.requires.holds.0,
-              subst (λ (q : List ℕ). Holds q 0) (sym both.1) c.requires.holds.1,
-            ),
+            subst (λ (q : List ℕ). Holds q c.args.n) (sym same) c.requires.holds.0,
+            subst (λ (q : List ℕ). Holds q 0) (sym both.1) c.requires.holds.1,
           ),
         ),
       ),
     )
 
-pub walk_phase1-returns-in-To : goal.walk_phase1-returns-in-To
-walk_phase1-returns-in-To t c =
+pub walk_phase1-returns-in-Some : goal.walk_phase1-returns-in-Some
+walk_phase1-returns-in-Some t c =
     let r = c.step_phase1-r in
     let first = first-is c.first_column-j.ensures c.other_columns-on.ensures in
     let low = first-low first c.requires.below.1 in
     let room : c.args.n < 31 = omega (arith, c.requires.d_bound.0, c.requires.d_bound.1) in
-    let still_open = word-open (λ l. l.1) _ _ r.ensures.word c.if-r-ge4294967296.false in
+    let still_open = word-open (λ l. l.1) _ _ r.ensures.word c.if-r-ge-HIGH.false in
     let both = open1 _ still_open r.ensures.paths in
     let same = ap (λ (p : List ℕ). set p c.args.n 0) both.0 ∙ popped c.requires.holds.0 _ room in
-    let made = was-made1 _ _ _ _ (sym c.in-To.is ∙ c.next-step.ensures) in
+    let made = was-made1 _ _ _ _ (sym c.in-Some.is ∙ c.next.ensures) in
     via1
     (back-open _ _ _ _ phase1-column _ _ _ first low.0 c.requires.holds.0 room c.phase1_move-m.ensures made.0 (c.after-z.ensures.0 ∙ made.1) c.after-z.ensures.1 still_open)
     refl
-    (again1 _ _ _ _ c.args.n _ _ same both.1 c.walk_phase1-in-To.ensures)
+    (again1 _ _ _ _ c.args.n _ _ same both.1 c.walk_phase1-in-Some.ensures)

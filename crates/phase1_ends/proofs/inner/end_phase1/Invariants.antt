@@ -10,8 +10,8 @@ abbrev pub invariant-loop-d : goal.invariant-loop-d
 invariant-loop-d l = (l.d ≤ l.top)
     × ((l.rest < 4294967296)
     × ((l.two ≡ l.initial.two)
-    × (deepen_from (run2 (turns2 l.moves.now) (fars2 l.prunes.now) (of2 l.x) l.x.last) l.top 0 l.left
-    ≡ deepen_from (run2 (turns2 l.moves.now) (fars2 l.prunes.now) (of2 l.x) l.x.last) l.top l.d l.rest)))
+    × (deepen_from (run2 (turns2 l.tables.moves.now) (fars2 l.tables.prunes.now) (of2 l.x) l.x.last) l.top 0 l.left
+    ≡ deepen_from (run2 (turns2 l.tables.moves.now) (fars2 l.tables.prunes.now) (of2 l.x) l.x.last) l.top l.d l.rest)))
 
 abbrev pub decreases-loop-d : goal.decreases-loop-d
 decreases-loop-d l = l.top - l.d

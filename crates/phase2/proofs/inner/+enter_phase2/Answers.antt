@@ -45,15 +45,15 @@ loop-set-init t c =
           c.phase2_open-set.ensures;
     }
 
-pub returns-in-Refused : goal.returns-in-Refused
+pub returns-in-None : goal.returns-in-None
 unfolding word_of Leaves2
-returns-in-Refused t c =
+returns-in-None t c =
     let first = first-is c.first_column-j.ensures c.other_columns-set.ensures in
     let low = first-low first c.loop-set.invariant.under in
-    gives2 (c.loop-set.invariant.walk ∙ refuses _ _ _ _ phase2-column _ _ _ _ first low.0 (was-refused2 _ _ _ (sym c.in-Refused.is ∙ c.next-step.ensures))) refl tt
+    gives2 (c.loop-set.invariant.walk ∙ refuses _ _ _ _ phase2-column _ _ _ _ first low.0 (was-refused2 _ _ _ (sym c.in-None.is ∙ c.next.ensures))) refl tt
 
-pub cut_at_once-requires-clause-below : goal.cut_at_once-requires-clause-below
-cut_at_once-requires-clause-below t c = made-below2 _ _ _ (sym c.in-To.is ∙ c.next-step.ensures)
+pub cut_at_once-requires : goal.cut_at_once-requires
+cut_at_once-requires t c = made-below2 _ _ _ (sym c.in-Some.is ∙ c.next.ensures)
 
 pub overflow_sub-rest-then-cut_at_once : goal.overflow_sub-rest-then-cut_at_once
 overflow_sub-rest-then-cut_at_once t c = cut-paid _ _ _ _ _ (sym c.cut_at_once.ensures ∙ c.if-cut_at_once.true)
@@ -63,7 +63,7 @@ loop-set-preserved-then-cut_at_once t c =
     let inv = c.loop-set.invariant in
     let first = first-is c.first_column-j.ensures c.other_columns-set.ensures in
     let low = first-low first inv.under in
-    let made = was-made2 _ _ _ _ (sym c.in-To.is ∙ c.next-step.ensures) in
+    let made = was-made2 _ _ _ _ (sym c.in-Some.is ∙ c.next.ensures) in
     let left = sym c.cut_at_once.ensures ∙ c.if-cut_at_once.true in
     record {
       under = low.1;
@@ -81,30 +81,27 @@ enter_phase2-r-requires t c =
     let move = phase2-column _ low.0 in (
       omega (arith, c.decreases, c.if-d-eq0.false),
       (
-        c.requires.blocks,
+        subst (Below phase2) (sym c.after.ensures.0) (made-below2 _ _ _ (sym c.in-Some.is ∙ c.next.ensures)),
         (
-          subst (Below phase2) (sym c.after.ensures.0) (made-below2 _ _ _ (sym c.in-To.is ∙ c.next-step.ensures)),
+          omega (arith, c.requires.d_bound, c.if-d-eq0.false),
           (
-            omega (arith, c.requires.d_bound, c.if-d-eq0.false),
-            (
-              holds_more hold _ room (subst (λ (m : ℕ). m < 18) (sym c.phase2_move-m.ensures) move),
-              same-cut _ _ _ _ _ c.after.ensures.0 (sym c.cut_at_once.ensures ∙ c.if-cut_at_once.false),
-            ),
+            holds_more hold _ room (subst (λ (m : ℕ). m < 18) (sym c.phase2_move-m.ensures) move),
+            same-cut _ _ _ _ _ c.after.ensures.0 (sym c.cut_at_once.ensures ∙ c.if-cut_at_once.false),
           ),
         ),
       ),
     )
 
-pub returns-then-r-ge4294967296 : goal.returns-then-r-ge4294967296
-returns-then-r-ge4294967296 t c =
+pub returns-then-r-ge-HIGH : goal.returns-then-r-ge-HIGH
+returns-then-r-ge-HIGH t c =
     let inv = c.loop-set.invariant in
     let r = c.enter_phase2-r in
     let first = first-is c.first_column-j.ensures c.other_columns-set.ensures in
     let low = first-low first inv.under in
     let hold : Holds c.loop-set.path c.args.n = subst (λ (p : List ℕ). Holds p c.args.n) (sym inv.path_same) c.requires.holds in
     let room : c.args.n < 31 = omega (arith, c.requires.d_bound, c.if-d-eq0.false) in
-    let made = was-made2 _ _ _ _ (sym c.in-To.is ∙ c.next-step.ensures) in
-    let ended = word-ended (λ l. l) _ _ r.ensures.word (lt_of_le_of_lt (enter2-spends _ _ _ _ _) inv.rest_bound) c.if-r-ge4294967296.true in
+    let made = was-made2 _ _ _ _ (sym c.in-Some.is ∙ c.next.ensures) in
+    let ended = word-ended (λ l. l) _ _ r.ensures.word (lt_of_le_of_lt (enter2-spends _ _ _ _ _) inv.rest_bound) c.if-r-ge-HIGH.true in
     let all = inv.walk ∙ back_done _ _ _ _ phase2-column _ _ _ first low.0 hold room c.phase2_move-m.ensures made.0 (c.after.ensures.0 ∙ made.1) c.after.ensures.1 ended.2 in
     record { word = r.ensures.word ∙ ap (word_of (λ l. l)) (ended.2 ∙ sym all); path = over2 _ _ _ ended.2 all r.ensures.path }
 
@@ -116,12 +113,12 @@ loop-set-preserved t c =
     let low = first-low first inv.under in
     let hold : Holds c.loop-set.path c.args.n = subst (λ (p : List ℕ). Holds p c.args.n) (sym inv.path_same) c.requires.holds in
     let room : c.args.n < 31 = omega (arith, c.requires.d_bound, c.if-d-eq0.false) in
-    let made = was-made2 _ _ _ _ (sym c.in-To.is ∙ c.next-step.ensures) in
-    let still_open = word-open (λ l. l) _ _ r.ensures.word c.if-r-ge4294967296.false in
+    let made = was-made2 _ _ _ _ (sym c.in-Some.is ∙ c.next.ensures) in
+    let still_open = word-open (λ l. l) _ _ r.ensures.word c.if-r-ge-HIGH.false in
     let same = ap (λ (p : List ℕ). set p c.args.n 0) (open2 still_open r.ensures.path) ∙ popped hold _ room in
     record {
       under = low.1;
-      rest_bound = c.if-r-ge4294967296.false;
+      rest_bound = c.if-r-ge-HIGH.false;
       path_same = same ∙ inv.path_same;
       walk =
           inv.walk

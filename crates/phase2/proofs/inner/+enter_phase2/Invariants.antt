@@ -19,8 +19,8 @@ invariant-loop-set l = record {
   rest_bound : l.rest < 4294967296;
   path_same : l.path ≡ l.initial.path;
   walk :
-      enter (rules2 (turns2 l.moves.now) (fars2 l.prunes.now)) l.d (at (of2 l.x) l.x.last (take l.n l.initial.path)) l.left
-      ≡ walk_over (rules2 (turns2 l.moves.now) (fars2 l.prunes.now)) (l.d - 1) (at (of2 l.x) 18 (take l.n l.path)) (columns_of l.set) l.rest;
+      enter (rules2 (turns2 l.tables.moves.now) (fars2 l.tables.prunes.now)) l.d (at (of2 l.x) l.x.last (take l.n l.initial.path)) l.left
+      ≡ walk_over (rules2 (turns2 l.tables.moves.now) (fars2 l.tables.prunes.now)) (l.d - 1) (at (of2 l.x) 18 (take l.n l.path)) (columns_of l.set) l.rest;
 }
 
 abbrev pub decreases-loop-set : goal.decreases-loop-set

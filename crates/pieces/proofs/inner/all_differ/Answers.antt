@@ -10,6 +10,6 @@ use Rattle.pieces.proofs.inner.all_differ.Goals as goal
 pub returns : goal.returns
 returns c =
     let s = c.args.s.now in
-    let l = c.loop-i in
-    let e : l.met ≡ mask_from 0 s = sym (ap (mask_from l.met) (drop_of_length-le s c.loop-i-test.false)) ∙ l.invariant.2 in
+    let l = c.loop-x in
+    let e : l.met ≡ mask_from 0 s = sym (ap (mask_from l.met) (drop_of_length-le s c.loop-x-test.false)) ∙ l.invariant.1 in
     ap (λ (m : ℕ). eqb (ones m) (length s)) e ∙ mask-law s

@@ -4,4 +4,4 @@ use Rattle.reading.proofs.inner.cube_read.Goals as goal
 
 pub returns : goal.returns
 unfolding cube_read
-returns c = λ i. record { cp = c.read_corners.ensures.cp_after i; co = c.read_corners.ensures.co_after i; ep = c.read_edges.ensures.ep_after i; eo = c.read_edges.ensures.eo_after i }
+returns c = λ i. record { cp = c.read_corners.ensures.corners i; co = c.read_corners.ensures.twists i; ep = c.read_edges.ensures.edges i; eo = c.read_edges.ensures.flips i }

@@ -1,49 +1,66 @@
--- `reading::inner::read_corners` meets its contract. Outer loop: what is written is the front of what is read. Inner loop: the pieces that are left give the first that fits. Assumes nothing.
-use mathlib.Core.Path.{◌≡◌, sym, ◌∙◌}
+-- `reading::inner::read_corners` meets its contract. Assumes nothing.
+use mathlib.Core.Path.{◌≡◌, refl, sym, ap, ◌∙◌}
+use mathlib.Core.Bool.{true, false}
 use mathlib.Core.List.{map}
+use Prim.Native.Nat.{ℕ, ◌<◌}
 use native.Mathlib.Omega.{arith}
+use borrow.Author.Tests.{lt-ltb}
 use lib.ListN.{length-set}
+use Rattle.std.proofs.Common.{Option, Some, None, MatchOption}
 use Rattle.base.specs.Lists.{range}
 use Rattle.base.proofs.Product.{map-range-at, map-range-length}
 use Rattle.base.proofs.Steps.{written-more, written_all}
 use Rattle.stickers.specs.Reader.{corner_fits, first_from, corner_read, twist_read}
 use Rattle.stickers.proofs.First.{first_found, first_next, first-none}
-use Rattle.stickers.proofs.Found.{corner-chosen, twist-chosen}
-use Rattle.reading.proofs.inner.read_corners.Goals.{then-j-eq8, else-j-eq8+then-corner_fits}
+use Rattle.stickers.proofs.Found.{corner-placed}
+use Rattle.reading.proofs.inner.read_corners.Goals.{then-loop-j-test+then-corner_fits, else-loop-j-test, in-Some, in-None}
 use Rattle.reading.proofs.inner.read_corners.Goals as goal
 
-pub pieces-preserved : goal.pieces-preserved
-pieces-preserved c = (omega arith, first_next _ 8 c.pieces.j (omega arith) (sym c.corner_fits.ensures ∙ c.if-corner_fits.false) ∙ c.pieces.invariant.1)
+pub loop-j-preserved : goal.loop-j-preserved
+loop-j-preserved c = first_next _ 8 c.loop-j.j c.loop-j-test.true (sym c.corner_fits.ensures ∙ c.if-corner_fits.false) ∙ c.loop-j.invariant
+
+-- the inner loop yields the first piece that fits
+yielded : (c : goal.Joined-piece) (r : Option ℕ) → c.loop-j-test.piece ≡ r
+    → MatchOption r (8 ≡ first_from (corner_fits c.at_corner-a.result c.at_corner-b.result) 0 8) (λ j. (j < 8) × (j ≡ first_from (corner_fits c.at_corner-a.result c.at_corner-b.result) 0 8))
+yielded c r e =
+    let fits = corner_fits c.at_corner-a.result c.at_corner-b.result in
+    let l = c.loop-j in
+    elim c.loop-j-test.branch [
+      | then-loop-j-test+then-corner_fits w ↦ rw (← e, w.piece-is) (w.loop-j-test.true, sym (first_found fits 8 l.j w.loop-j-test.true (sym w.corner_fits.ensures ∙ w.if-corner_fits.true)) ∙ l.invariant)
+      | else-loop-j-test w ↦ rw (← e, w.piece-is) (omega (arith, w.loop-j-test.false, l.auto.j-end) ∙ sym (first-none fits 8 l.j w.loop-j-test.false) ∙ l.invariant)
+    ]
+
+-- that piece and its twist go to the place
+placed : (c : goal.Joined-piece) → c.match-piece.cp ≡ (corner_read c.args.s.now c.places.i, twist_read c.args.s.now c.places.i)
+placed c =
+    let at = λ (j : ℕ). corner-placed c.args.s.now c.places.i _ _ _ _ _ j c.at_corner.ensures c.at_corner-in-places.ensures c.twist_seen-twist.ensures c.at_corner-a.ensures c.at_corner-b.ensures in
+    elim c.match-piece.branch [
+      | in-Some w ↦ let f = yielded c (Some w.in-Some.j) w.in-Some.is in w.cp-is ∙ at w.in-Some.j f.1 true (lt-ltb w.in-Some.j 8 f.0)
+      | in-None w ↦ w.cp-is ∙ at 8 (yielded c None w.in-None.is) false refl
+    ]
 
 pub places-preserved : goal.places-preserved
 places-preserved c =
     let s = c.args.s.now in
     let l = c.places in
     let h = c.places-test.true in
-    let fits = corner_fits c.at_corner-a.result c.at_corner-b.result in
-    let inner = c.pieces in
-    let e : c.if-j-eq8.piece ≡ first_from fits 0 8 =
-    elim c.if-j-eq8.branch [
-      | then-j-eq8 w ↦ w.piece-is ∙ sym w.if-j-eq8.true ∙ sym (first-none fits 8 inner.j (omega (arith, w.if-j-eq8.true))) ∙ inner.invariant.1
-      | else-j-eq8+then-corner_fits w ↦ w.piece-is ∙ sym (first_found fits 8 inner.j (omega (arith, w.if-j-eq8.false, inner.invariant.0)) (sym w.corner_fits.ensures ∙ w.if-corner_fits.true)) ∙ inner.invariant.1
-    ] in
-    let x = c.at_corner.ensures in
-    let y = c.at_corner-in-places.ensures in
-    let t = c.twist_seen-twist.ensures in
-    let a = c.at_corner-a.ensures in
-    let b = c.at_corner-b.ensures in
-    let p = corner-chosen s l.i _ _ _ _ _ _ x y t a b e in
-    let q = twist-chosen s l.i _ _ _ _ _ _ x y t a b e in (
-      omega arith,
-      length-set l.cp l.i _ ∙ l.invariant.1,
-      length-set l.co l.i _ ∙ l.invariant.2,
-      written-more l.cp (map (corner_read s) (range 0 8)) l.i (map-range-length (corner_read s) 8 ∙ sym l.invariant.1) l.invariant.3 _ (omega arith)
-          (c.chosen.ensures ∙ p ∙ sym (map-range-at (corner_read s) 8 l.i h)),
-      written-more l.co (map (twist_read s) (range 0 8)) l.i (map-range-length (twist_read s) 8 ∙ sym l.invariant.2) l.invariant.4 _ (omega arith)
-          (c.chosen-in-places.ensures ∙ q ∙ sym (map-range-at (twist_read s) 8 l.i h)),
+    let p = placed c in (
+      length-set l.cp l.i _ ∙ l.invariant.0,
+      length-set l.co l.i _ ∙ l.invariant.1,
+      written-more l.cp (map (corner_read s) (range 0 8)) l.i (map-range-length (corner_read s) 8 ∙ sym l.invariant.0) l.invariant.2 _ (omega arith)
+          (ap (λ (q : ℕ × ℕ). q.0) p ∙ sym (map-range-at (corner_read s) 8 l.i h)),
+      written-more l.co (map (twist_read s) (range 0 8)) l.i (map-range-length (twist_read s) 8 ∙ sym l.invariant.1) l.invariant.3 _ (omega arith)
+          (ap (λ (q : ℕ × ℕ). q.1) p ∙ sym (map-range-at (twist_read s) 8 l.i h)),
     )
 
-pub returns : goal.returns
-returns c =
-    let s = c.args.s.now in
-    let l = c.places in record { cp_after = written_all l.cp (map (corner_read s) (range 0 8)) l.i (map-range-length (corner_read s) 8 ∙ sym l.invariant.1) l.invariant.3 (omega arith); co_after = written_all l.co (map (twist_read s) (range 0 8)) l.i (map-range-length (twist_read s) 8 ∙ sym l.invariant.2) l.invariant.4 (omega arith) }
+pub returns-clause-corners : goal.returns-clause-corners
+returns-clause-corners c =
+    let f = corner_read c.args.s.now in
+    let l = c.places in
+    written_all l.cp (map f (range 0 8)) l.i (map-range-length f 8 ∙ sym l.invariant.0) l.invariant.2 (omega arith)
+
+pub returns-clause-twists : goal.returns-clause-twists
+returns-clause-twists c =
+    let f = twist_read c.args.s.now in
+    let l = c.places in
+    written_all l.co (map f (range 0 8)) l.i (map-range-length f 8 ∙ sym l.invariant.1) l.invariant.3 (omega arith)

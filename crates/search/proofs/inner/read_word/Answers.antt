@@ -9,24 +9,24 @@ use Rattle.search.proofs.Words.{no-moves, empty-is, solved-is}
 use borrow.Author.Rules.{rules}
 use Rattle.search.proofs.inner.read_word.Goals as goal
 
-pub returns-then-out-eq1 : goal.returns-then-out-eq1
-returns-then-out-eq1 c =
+pub returns-in-1 : goal.returns-in-1
+returns-in-1 c =
     let small : c.args.budget < 4294967296 = c.ranges.budget.fits in
-    λ q p₁ p₂ h g. (c.no_lists.ensures ∙ empty-is _ q _ 1 g.word (lt_of_le_of_lt h small) c.if-out-eq1.true (lit< tt), no-moves _ _ c.no_lists.ensures)
+    λ q p₁ p₂ h g. (c.no_lists.ensures ∙ empty-is _ q _ 1 g.word (lt_of_le_of_lt h small) c.in-1.is (lit< tt), no-moves _ _ c.no_lists.ensures)
 
-pub returns-then-out-eq2 : goal.returns-then-out-eq2
-returns-then-out-eq2 c =
+pub returns-in-2 : goal.returns-in-2
+returns-in-2 c =
     let small : c.args.budget < 4294967296 = c.ranges.budget.fits in
-    λ q p₁ p₂ h g. (c.no_lists-then-out-eq2.ensures ∙ empty-is _ q _ 2 g.word (lt_of_le_of_lt h small) c.if-out-eq2.true (lit< tt), no-moves _ _ c.no_lists-then-out-eq2.ensures)
+    λ q p₁ p₂ h g. (c.no_lists-in-2.ensures ∙ empty-is _ q _ 2 g.word (lt_of_le_of_lt h small) c.in-2.is (lit< tt), no-moves _ _ c.no_lists-in-2.ensures)
 
-pub returns-then-out-eq3 : goal.returns-then-out-eq3
-returns-then-out-eq3 c =
+pub returns-in-3 : goal.returns-in-3
+returns-in-3 c =
     let small : c.args.budget < 4294967296 = c.ranges.budget.fits in
-    λ q p₁ p₂ h g. (c.no_lists-then-out-eq3.ensures ∙ empty-is _ q _ 3 g.word (lt_of_le_of_lt h small) c.if-out-eq3.true (lit< tt), no-moves _ _ c.no_lists-then-out-eq3.ensures)
+    λ q p₁ p₂ h g. (c.no_lists-in-3.ensures ∙ empty-is _ q _ 3 g.word (lt_of_le_of_lt h small) c.in-3.is (lit< tt), no-moves _ _ c.no_lists-in-3.ensures)
 
-pub returns : goal.returns
-returns c =
+pub returns-in_default : goal.returns-in_default
+returns-in_default c =
     let small : c.args.budget < 4294967296 = c.ranges.budget.fits in
     let two : length c.args.two ≡ 31 = search rules in
     λ q p₁ p₂ h g.
-    solved-is _ q _ _ p₁ p₂ _ _ c.requires.2 two g.word (lt_of_le_of_lt h small) (omega (arith, c.requires.0, c.if-out-eq1.false, c.if-out-eq2.false, c.if-out-eq3.false)) g.paths
+    solved-is _ q _ _ p₁ p₂ _ _ c.requires.2 two g.word (lt_of_le_of_lt h small) (omega (arith, c.requires.0, c.in_default)) g.paths

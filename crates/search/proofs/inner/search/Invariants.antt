@@ -14,8 +14,8 @@ invariant-loop-d l = (l.d ≤ l.limit + 1)
     × ((l.rest ≤ l.budget)
     × ((l.one ≡ replicate 31 0)
     × ((l.two ≡ replicate 31 0)
-    × (deepen_from (run l.moves l.prunes (cube_of l.bytes) l.limit (of1 l.x) l.x.last) (l.limit + 1) 0 l.budget
-    ≡ deepen_from (run l.moves l.prunes (cube_of l.bytes) l.limit (of1 l.x) l.x.last) (l.limit + 1) l.d l.rest))))
+    × (deepen_from (run l.tables.moves.now l.tables.prunes.now (cube_of l.bytes) l.limit (of1 l.x) l.x.last) (l.limit + 1) 0 l.budget
+    ≡ deepen_from (run l.tables.moves.now l.tables.prunes.now (cube_of l.bytes) l.limit (of1 l.x) l.x.last) (l.limit + 1) l.d l.rest))))
 
 abbrev pub decreases-loop-d : goal.decreases-loop-d
 decreases-loop-d l = l.limit + 1 - l.d

@@ -1,29 +1,21 @@
--- `stickers::inner::all_colors` meets its contract. The loop keeps the answer: what is left gives the same as the whole. Assumes nothing.
-use mathlib.Core.Path.{◌≡◌, sym, ap, ◌∙◌}
-use mathlib.Core.Bool.{Bool, true, false, ◌&&◌}
-use Prim.Native.Nat.{◌+◌}
-use native.Mathlib.Omega.{arith}
-use lib.ListN.{get_or, drop, drop_of_length-le}
-use Rattle.base.proofs.Steps.{next}
+-- `stickers::inner::all_colors` meets its contract. Assumes nothing.
+use mathlib.Core.Path.{◌≡◌, refl, ap, ◌∙◌}
+use mathlib.Core.Bool.{Bool, ◌&&◌}
+use mathlib.Core.List.{List, [], ◌∷◌}
+use Prim.Native.Nat.{ℕ}
+use Rattle.std.proofs.Common.{rules, tests}
+use Rattle.std.proofs.lemmas.Iterator.{YieldsList-from_slice}
+use Rattle.std.proofs.lemmas.Iterator.Search.{all_from_yields_List}
+use Rattle.std.specs.List.{list_all}
 use Rattle.stickers.specs.Reader.{is_color, all_colors}
 use Rattle.stickers.proofs.inner.all_colors.Goals as goal
 
-pub returns-then-not-is_color : goal.returns-then-not-is_color
+all-colors : (xs : List ℕ) → list_all is_color xs ≡ all_colors xs
 unfolding all_colors
-returns-then-not-is_color c =
-    let s = c.args.s.now in
-    let l = c.loop-i in
-    let e : is_color (get_or s l.i 0) ≡ false = sym c.is_color.ensures ∙ c.if-not-is_color.true in
-    sym (ap all_colors (next s l.i c.loop-i-test.true) ∙ ap (λ (b : Bool). b && all_colors (drop (l.i + 1) s)) e) ∙ l.invariant.1
-
-pub loop-i-preserved : goal.loop-i-preserved
-unfolding all_colors
-loop-i-preserved c =
-    let s = c.args.s.now in
-    let l = c.loop-i in
-    let e : is_color (get_or s l.i 0) ≡ true = sym c.is_color.ensures ∙ c.if-not-is_color.false in
-    (omega arith, sym (ap all_colors (next s l.i c.loop-i-test.true) ∙ ap (λ (b : Bool). b && all_colors (drop (l.i + 1) s)) e) ∙ l.invariant.1)
+all-colors [] = refl
+all-colors (x ∷ xs) = ap (λ (b : Bool). is_color x && b) (all-colors xs)
 
 pub returns : goal.returns
-unfolding all_colors
-returns c = sym (ap all_colors (drop_of_length-le c.args.s.now c.loop-i-test.false)) ∙ c.loop-i.invariant.1
+returns c =
+    let s = c.args.s.now in
+    all_from_yields_List is_color _ _ c.all.result c.all.ensures.ran (YieldsList-from_slice s cc) (λ x b q k. search (rules, tests)) ∙ all-colors s

@@ -1,5 +1,4 @@
 -- `turning::inner::count_swaps` meets its contract. The loop's invariant: the swaps made and those that are left make the swaps of the whole. Assumes nothing.
-use mathlib.Core.Path.{◌∙◌}
 use native.Mathlib.Omega.{arith}
 use lib.ListN.{length, drop}
 use Rattle.base.proofs.Selection.{swaps-step, swaps-end, settled-le}
@@ -8,13 +7,9 @@ use Rattle.turning.proofs.inner.count_swaps.Goals as goal
 pub loop-i-preserved : goal.loop-i-preserved
 loop-i-preserved c =
     let l = c.loop-i in
-    let h = c.loop-i-test.true in
-    let s = c.settle-count in
-    let n = length c.args.p.now in (
-      omega arith,
-      s.auto.p ∙ l.invariant.1,
+    let s = c.settle-count in (
       omega (arith, settled-le l.i l.p s.new.p s.result s.ensures),
-      omega (arith, swaps-step n l.i l.p s.new.p s.result h l.invariant.1 s.ensures),
+      omega (arith, swaps-step (length c.args.p.now) l.i l.p s.new.p s.result (omega arith) l.auto.p s.ensures),
     )
 
 pub returns : goal.returns

@@ -6,7 +6,4 @@ use Rattle.base.specs.Parity.{swaps_from, swaps}
 use Rattle.turning.proofs.inner.count_swaps.Given as goal
 
 abbrev pub invariant-loop-i : goal.invariant-loop-i
-invariant-loop-i l = (l.i ≤ length l.initial.p) × (length l.p ≡ length l.initial.p) × (l.count ≤ l.i) × (l.count + swaps_from (length l.initial.p - l.i) l.i (drop l.i l.p) ≡ swaps l.initial.p)
-
-abbrev pub decreases-loop-i : goal.decreases-loop-i
-decreases-loop-i l = length l.initial.p - l.i
+invariant-loop-i l = (l.count ≤ l.i) × (l.count + swaps_from (length l.initial.p - l.i) l.i (drop l.i l.p) ≡ swaps l.initial.p)

@@ -1,12 +1,7 @@
 -- `turning::inner::settle` meets its contract. The loop's invariant: nothing is changed yet, and no place passed holds i. Assumes nothing.
 use mathlib.Core.Path.{◌≡◌}
-use Prim.Native.Nat.{◌≤◌, ◌<◌, ◌-◌}
-use lib.ListN.{length}
 use Rattle.base.proofs.Selection.{Passed}
 use Rattle.turning.proofs.inner.settle.Given as goal
 
 abbrev pub invariant-loop-j : goal.invariant-loop-j
-invariant-loop-j l = (l.i < l.j) × (l.j ≤ length l.initial.p) × (l.p ≡ l.initial.p) × Passed l.i l.j l.initial.p
-
-abbrev pub decreases-loop-j : goal.decreases-loop-j
-decreases-loop-j l = length l.initial.p - l.j
+invariant-loop-j l = (l.p ≡ l.initial.p) × Passed l.i l.j l.initial.p
