@@ -5,17 +5,18 @@ use mathlib.Core.Bool.{Bool, true, false}
 use mathlib.Core.Logic.{⊎_elim}
 use mathlib.Core.List.{List, [], ◌∷◌}
 use Prim.Native.Nat.{ℕ, zero, suc, ◌+◌, ◌*◌, ◌/◌, ◌%◌, ◌^◌, ◌≤◌, ◌<◌, max}
-use native.Mathlib.Nat.{zero-lt-suc, mod-lt, pow-suc, pow-succ', div-one, zero-div, div-eq_of_lt, mul-mod_left, mul-div-mul_right, div-div-eq-div-mul}
+use native.Mathlib.Nat.{zero-lt-suc, mod-lt, mod-eq_of_lt, one-mul, pow-suc, pow-succ', div-one, zero-div, div-eq_of_lt, mul-mod_left, mul-div-mul_right, div-div-eq-div-mul}
 use native.Mathlib.Omega.{arith}
 use lib.Arith.{digits_div, digits_mod}
-use lib.Bits.{bit_or, or_step, or_shr, or_zero_r}
+use lib.Bits.{bit_or, or_step, or_shr, or_zero_r, or_lt}
 use lib.Count.{ones, ones_step}
 use lib.Dec.{eqb}
-use lib.ListN.{length}
-use lib.Pow.{pow-lt}
+use lib.ListN.{length, get_or, drop}
+use lib.Pow.{pow_pos, pow-lt}
 use borrow.Author.Tests.{eqb-true, eq-eqb}
 use Rattle.base.specs.Perm.{same, count, no_repeat}
 use Rattle.base.proofs.Perm.{same-is, same-cut}
+use Rattle.base.proofs.Steps.{next}
 use Rattle.base.proofs.Tests.{no_repeat-once, once-no_repeat}
 
 abbrev pub mask_from : ℕ → List ℕ → ℕ
@@ -133,3 +134,16 @@ mask-law xs = same_bool _ _ to fro
     fro e =
         let n : repeats 0 xs ≡ 0 = once-none 0 xs (λ a. omega (arith, no_repeat-once xs e a, zero_seen a)) in
         eq-eqb (ones (mask_from 0 xs)) (length xs) (omega (arith, ones-mask 0 xs, zero-ones))
+
+-- ---- one turn of the loop, with the shift as the machine has it
+
+shift_is : (x : ℕ) → x < 32 → 1 * 2 ^ x % 2 ^ 32 ≡ 2 ^ x
+shift_is x h = ap (λ (n : ℕ). n % 2 ^ 32) (one-mul (2 ^ x)) ∙ mod-eq_of_lt (pow-lt h)
+
+pub mask_lt : (m x : ℕ) → m < 2 ^ 32 → bit_or m (1 * 2 ^ x % 2 ^ 32) < 2 ^ 32
+mask_lt m x h = or_lt 32 m (1 * 2 ^ x % 2 ^ 32) h (mod-lt (1 * 2 ^ x) (pow_pos 32))
+
+pub mask_step : (m : ℕ) (s : List ℕ) (i : ℕ) → i < length s → get_or s i 0 < 32
+    → mask_from (bit_or m (1 * 2 ^ get_or s i 0 % 2 ^ 32)) (drop (i + 1) s) ≡ mask_from m (drop i s)
+mask_step m s i h k =
+    ap (λ (b : ℕ). mask_from (bit_or m b) (drop (i + 1) s)) (shift_is (get_or s i 0) k) ∙ sym (ap (mask_from m) (next s i h))

@@ -1,9 +1,9 @@
 -- What the selection loop of `settle` and `count_swaps` does to the list. Assumes nothing.
-use mathlib.Core.Path.{◌≡◌, refl, sym, ap, ap₂, ◌∙◌}
+use mathlib.Core.Path.{◌≡◌, refl, sym, ap, ap₂, ◌∙◌, subst}
 use mathlib.Core.Logic.{⊎_elim}
 use mathlib.Core.List.{List, [], ◌∷◌}
 use Prim.Native.Nat.{ℕ, zero, suc, ◌+◌, ◌-◌, ◌≤◌, ◌<◌, suc-le-suc}
-use native.Mathlib.Nat.{zero-lt-suc, le_of_suc-le-suc, not-suc-le-zero}
+use native.Mathlib.Nat.{zero-lt-suc, le_of_suc-le-suc, eq-or-lt_of_le, not-suc-le-zero}
 use native.Mathlib.Numerals.{add-one}
 use native.Mathlib.Omega.{arith}
 use lib.ListN.{length, get_or, drop, set, length-drop}
@@ -44,6 +44,12 @@ none-at i (y ∷ ys) n =
 -- none of the places between i and j holds i
 abbrev pub Passed : ℕ → ℕ → List ℕ → Type 0
 Passed i j p = (k : ℕ) → i < k → k < j → get_or p k 0 ≡ i → ⊥
+
+pub passed_none : (i : ℕ) (p : List ℕ) → Passed i (i + 1) p
+passed_none i p k a b e = omega arith
+
+pub passed-more : (i j : ℕ) (p : List ℕ) → Passed i j p → (get_or p j 0 ≡ i → ⊥) → Passed i (j + 1) p
+passed-more i j p n x k a b e = ⊎_elim (λ q. x (subst (λ (m : ℕ). get_or p m 0 ≡ i) q e)) (λ q. n k a q e) (eq-or-lt_of_le {n = k} {m = j} (omega arith))
 
 module _ (i : ℕ) (p : List ℕ) where
   rest_at : (m : ℕ) → get_or (drop (i + 1) p) m 0 ≡ get_or p (i + 1 + m) 0

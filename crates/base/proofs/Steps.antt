@@ -1,14 +1,17 @@
 -- What one turn of a loop that goes up a list does to what is left of the list. Assumes nothing.
-use mathlib.Core.Path.{◌≡◌, sym, ap, ap₂, ◌∙◌}
+use mathlib.Core.Path.{◌≡◌, refl, sym, ap, ap₂, ◌∙◌}
+use mathlib.Core.Bool.{Bool, true, false, ◌&&◌}
 use mathlib.Core.List.{List, [], ◌∷◌, ◌++◌, append-nil}
 use Prim.Native.Nat.{ℕ, suc, ◌+◌, ◌-◌, ◌*◌, ◌≤◌, ◌<◌}
 use native.Mathlib.Decide.{le_ind}
 use native.Mathlib.Nat.{le_refl, le_trans, suc-mul, add-mul, mul_assoc, le-mul_of_pos_right}
 use native.Mathlib.Numerals.{add-one}
 use native.Mathlib.Omega.{arith}
+use lib.Dec.{ltb, eqb}
 use lib.ListN.{length, get_or, take, drop, set, drop_of_length-le, length-drop}
 use lib.Seq.{drop-cons, drop-drop, drop-append-add, take_all, take_at, take-length, take-suc, take-suc-set, paste}
-use Rattle.base.specs.Lists.{total}
+use borrow.Author.Tests.{lt-ltb, le-ltb, eq-eqb, ne_eqb}
+use Rattle.base.specs.Lists.{in_range, same_list, total}
 use Rattle.base.specs.Perm.{below, fact, number}
 use Rattle.base.proofs.Perm.{less-is, fact-pos, number_lt}
 
@@ -43,6 +46,47 @@ paste-next front d s e at k l m h =
 -- total
 pub total-step : (g : ℕ → ℕ) (s : List ℕ) (i : ℕ) → i < length s → total g (drop i s) ≡ g (get_or s i 0) + total g (drop (i + 1) s)
 total-step g s i h = ap (total g) (next s i h)
+
+-- same_list
+pub same-sizes : (a b : List ℕ) → (length a ≡ length b → ⊥) → false ≡ same_list a b
+unfolding same_list
+same-sizes [] [] h = absurd (h refl)
+same-sizes [] (y ∷ b) h = refl
+same-sizes (x ∷ a) [] h = refl
+same-sizes (x ∷ a) (y ∷ b) h = go (eqb x y) (same-sizes a b (λ e. h (ap suc e)))
+  where
+    go : (t : Bool) → false ≡ same_list a b → false ≡ t && same_list a b
+    go true e = e
+    go false e = refl
+
+module _ (a b : List ℕ) (i : ℕ) where
+  same_at : (t : Bool) → i < length a → i < length b → eqb (get_or a i 0) (get_or b i 0) ≡ t → same_list (drop i a) (drop i b) ≡ t && same_list (drop (i + 1) a) (drop (i + 1) b)
+  unfolding same_list
+  same_at t h k e = ap₂ same_list (next a i h) (next b i k) ∙ ap (λ (u : Bool). u && same_list (drop (i + 1) a) (drop (i + 1) b)) e
+
+  pub same_step : i < length a → i < length b → get_or a i 0 ≡ get_or b i 0 → same_list (drop (i + 1) a) (drop (i + 1) b) ≡ same_list (drop i a) (drop i b)
+  same_step h k e = sym (same_at true h k (eq-eqb _ _ e))
+
+  pub same_stop : i < length a → i < length b → (get_or a i 0 ≡ get_or b i 0 → ⊥) → false ≡ same_list (drop i a) (drop i b)
+  same_stop h k n = sym (same_at false h k (ne_eqb _ _ n))
+
+  pub same_end : length a ≤ i → length b ≤ i → true ≡ same_list (drop i a) (drop i b)
+  unfolding same_list
+  same_end h k = sym (ap₂ same_list (drop_of_length-le a h) (drop_of_length-le b k))
+
+-- in_range
+module _ (n : ℕ) (s : List ℕ) (i : ℕ) where
+  range_at : (b : Bool) → i < length s → ltb (get_or s i 0) n ≡ b → in_range n (drop i s) ≡ b && in_range n (drop (i + 1) s)
+  range_at b h e = ap (in_range n) (next s i h) ∙ ap (λ (t : Bool). t && in_range n (drop (i + 1) s)) e
+
+  pub range-step : i < length s → get_or s i 0 < n → in_range n (drop (i + 1) s) ≡ in_range n (drop i s)
+  range-step h l = sym (range_at true h (lt-ltb _ _ l))
+
+  pub range-stop : i < length s → n ≤ get_or s i 0 → false ≡ in_range n (drop i s)
+  range-stop h l = sym (range_at false h (le-ltb _ _ l))
+
+  pub range-end : length s ≤ i → true ≡ in_range n (drop i s)
+  range-end h = sym (ap (in_range n) (drop_of_length-le s h))
 
 -- below
 module _ (x : ℕ) (s : List ℕ) (j : ℕ) where

@@ -1,9 +1,8 @@
 -- The refusals of the coordinates by their numbers. Assumes nothing.
 use Rattle.std.proofs.Common.{◌≡◌, refl, ℕ, zero, suc, ◌<◌, Bool, true, false, eqb, List, length}
 use native.Mathlib.Omega.{arith}
-use Rattle.base.specs.Lists.{pick, in_range}
-use Rattle.base.specs.Perm.{no_repeat}
-use Rattle.numbering.specs.Kinds.{Kind, co, eo, e_combo, cp, ud_ep, e_ep, ep}
+use Rattle.base.specs.Lists.{pick}
+use Rattle.numbering.specs.Kinds.{e_combo}
 use Rattle.coordinate.specs.Calls.{fits, kind_at, index_number}
 
 -- 10, or the refusal of the four places' choice

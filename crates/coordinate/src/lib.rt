@@ -1,7 +1,7 @@
 // The seven coordinates by their numbers, on lent memory, for the C interface: 0 co, 1 eo, 2 e_combo, 3 cp, 4 ud_ep, 5 e_ep, 6 ep.
 #![tactic(auto)]
 
-ghost use Rattle.std.specs.Prelude.{◌≡◌, List, ℕ, Result, eqb, length};
+ghost use Rattle.std.specs.Prelude.{◌≡◌, ◌<◌, List, ℕ, Result, eqb, length};
 ghost use Rattle.base.specs.Lists.{pick};
 ghost use Rattle.refusal.specs.declared.Refusal.{Refusal};
 ghost use Rattle.refusal.specs.Refusals.{answered, checked, code, value_or};
@@ -67,8 +67,20 @@ pub fn to_index(kind: u8, places: &[u8], number: &mut u32) -> Result<(), Refusal
     Ok(())
 }
 
-// The arrangement of a number: 8 where it isn't below the coordinate's count, 10 for another number of places.
-pub fn from_index(kind: u8, n: u32, places: &mut [u8]) -> Result<(), Refusal>
+// How many places the arrangement of a coordinate has.
+fn places_of(kind: u8) -> usize
+    requires { kind < 7 }
+    ensures { result ≡ (kind_at kind).places }
+{
+    match kind {
+        0 => 8,
+        3 => 8,
+        _ => 12,
+    }
+}
+
+// The arrangement of a number, in as many places as it has.
+fn arrange(kind: u8, n: u32, places: &mut [u8]) -> Result<(), Refusal>
     ensures value { code result ≡ arrange_number kind n places.old }
     ensures places_after { places.new ≡ arrange_left kind n places.old }
 {
@@ -82,4 +94,16 @@ pub fn from_index(kind: u8, n: u32, places: &mut [u8]) -> Result<(), Refusal>
         6 => leave(places::index_to_ep(n), places),
         _ => Err(Refusal::Length),
     }
+}
+
+// The arrangement of a number: 8 where it isn't below the coordinate's count, 10 for another number of places.
+pub fn from_index(kind: u8, n: u32, places: &mut [u8]) -> Result<(), Refusal>
+    ensures value { code result ≡ arrange_number kind n places.old }
+    ensures places_after { places.new ≡ arrange_left kind n places.old }
+{
+    // before anything is worked out
+    if kind > 6 || places.len() != places_of(kind) {
+        return Err(Refusal::Length);
+    }
+    arrange(kind, n, places)
 }

@@ -10,7 +10,7 @@ use crate::quarters::QUARTERS;
 use crate::{CubieCube, SOLVED_CUBIE_CUBE};
 use parts::inner::{check_range, none_twice};
 use refusal::Refusal;
-use turning::inner::{count_swaps, count_turns, permute, twist};
+use turning::inner::{count_swaps, count_turns, permute_row, twist_row};
 
 // Refuses a cube that isn't in range: 4, 5 or 6, the lowest.
 pub fn check(c: CubieCube) -> Result<(), Refusal>
@@ -39,10 +39,10 @@ pub fn mul(a: CubieCube, b: CubieCube) -> CubieCube
     ensures { result ≡ product a b }
 {
     CubieCube {
-        cp: permute(&a.cp, &b.cp),
-        co: twist(&a.co, &b.cp, &b.co, 3),
-        ep: permute(&a.ep, &b.ep),
-        eo: twist(&a.eo, &b.ep, &b.eo, 2),
+        cp: permute_row(&a.cp, &b.cp),
+        co: twist_row(&a.co, &b.cp, &b.co, 3),
+        ep: permute_row(&a.ep, &b.ep),
+        eo: twist_row(&a.eo, &b.ep, &b.eo, 2),
     }
 }
 

@@ -1,13 +1,13 @@
 -- Which score there is. Assumes nothing.
-use Rattle.std.proofs.Common.{rules, arith, ◌≡◌, refl, sym, ap, ◌∙◌, IfOk, Bool, true, false, leb, eqb, List, ◌++◌, ℕ, zero, suc, ◌+◌, ◌≤◌, length, take, drop, Result, Ok, Err}
+use Rattle.std.proofs.Common.{rules, arith, ◌≡◌, refl, sym, ap, ◌∙◌, IfOk, Bool, true, false, leb, eqb, List, ◌++◌, ℕ, zero, suc, ◌+◌, ◌≤◌, ◌<◌, length, take, drop, Result, Ok, Err}
 use Rattle.std.proofs.Math.Seq.{take-append_seam, take-length}
 use borrow.Author.Tests.{leb-true}
 use Rattle.base.specs.Lists.{pick, in_range, Under}
 use Rattle.base.proofs.Tests.{in_range-under}
 use Rattle.cubie.specs.declared.CubieCube.{CubieCube}
 use Rattle.refusal.specs.declared.Refusal.{Refusal}
-use Rattle.refusal.specs.Refusals.{named, answered}
-use Rattle.refusal.proofs.Laws.{given, stays_as}
+use Rattle.refusal.specs.Refusals.{number, named, answered}
+use Rattle.refusal.proofs.Laws.{given, stays_as, was-refused, told}
 use Rattle.words.specs.Answers.{over, refusal, parsed_text, parsed_room, room_after}
 use Rattle.words.specs.Text.{parse}
 use Rattle.stickers.specs.Reader.{cube_read, read_strict, strict_refusal}
@@ -23,9 +23,24 @@ same-refusal t room e = rw e refl
 same-answer : (t room : List ℕ) → length room ≡ 255 → parsed_text t room ≡ answered (text_refusal t) (length (parse t))
 same-answer t room l = ap (λ (k : ℕ). answered k (length (parse t))) (same-refusal t room l)
 
-pub text-refused : (c : CubieCube) (t room : List ℕ) (r : Refusal) → length room ≡ 255 → parsed_text t room ≡ Err r → score_moves c t ≡ Err r
+text-le : (t : List ℕ) → text_refusal t < 16
+unfolding text_refusal
+text-le t = go (in_range 18 (parse t)) (leb (length (parse t)) 255)
+  where
+    go : (a b : Bool) → pick a (pick b 0 10) 7 < 16
+    go true true = omega arith
+    go true false = omega arith
+    go false b = omega arith
+
+pub text-refused : (t room : List ℕ) (r : Refusal) → length room ≡ 255 → parsed_text t room ≡ Err r → (eqb (text_refusal t) 0 ≡ false) × (number r ≡ text_refusal t)
+text-refused t room r l h =
+    let e = sym (same-answer t room l) ∙ h in
+    ((was-refused (text_refusal t) r (length (parse t)) e).0, told (text_refusal t) r (length (parse t)) (text-le t) e)
+
+-- and so the score is
+pub text-scored : (c : CubieCube) (t room : List ℕ) (r : Refusal) → length room ≡ 255 → parsed_text t room ≡ Err r → score_moves c t ≡ Err r
 unfolding score_moves
-text-refused c t room r l h = stays_as (text_refusal t) r (length (parse t)) (score_of c (parse t)) (sym (same-answer t room l) ∙ h)
+text-scored c t room r l h = stays_as (text_refusal t) r (length (parse t)) (score_of c (parse t)) (sym (same-answer t room l) ∙ h)
 
 few : (t : List ℕ) → text_refusal t ≡ 0 → (length (parse t) ≤ 255) × Under 18 (parse t)
 unfolding text_refusal

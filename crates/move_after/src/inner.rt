@@ -7,7 +7,7 @@ use move_row::MoveTable;
 use numbering::inner::e_combo_to_index;
 use orientation::inner::{co_to_index, eo_to_index};
 use permutation::inner::{cp_to_index, e_ep_to_index, ud_ep_to_index};
-use turning::inner::{permute, twist};
+use turning::inner::{permute_row, twist_row};
 
 // The coordinate of table t after move m of an arrangement.
 pub fn entry_after(t: MoveTable, a: &[u8], cubes: &[CubieCube; 18], m: usize) -> u16
@@ -16,11 +16,11 @@ pub fn entry_after(t: MoveTable, a: &[u8], cubes: &[CubieCube; 18], m: usize) ->
 {
     let c = &cubes[m];
     match t {
-        MoveTable::Co => co_to_index(twist(a, &c.cp, &c.co, 3)).0,
-        MoveTable::Eo => eo_to_index(twist(a, &c.ep, &c.eo, 2)).0,
-        MoveTable::ECombo => e_combo_to_index(permute(a, &c.ep)).0,
-        MoveTable::Cp => cp_to_index(permute(a, &c.cp)).0,
-        MoveTable::UdEp => ud_ep_to_index(permute(a, &c.ep)).0,
-        MoveTable::EEp => e_ep_to_index(permute(a, &c.ep)).0,
+        MoveTable::Co => co_to_index(twist_row(a, &c.cp, &c.co, 3)).0,
+        MoveTable::Eo => eo_to_index(twist_row(a, &c.ep, &c.eo, 2)).0,
+        MoveTable::ECombo => e_combo_to_index(permute_row(a, &c.ep)).0,
+        MoveTable::Cp => cp_to_index(permute_row(a, &c.cp)).0,
+        MoveTable::UdEp => ud_ep_to_index(permute_row(a, &c.ep)).0,
+        MoveTable::EEp => e_ep_to_index(permute_row(a, &c.ep)).0,
     }
 }

@@ -2,9 +2,10 @@
 use mathlib.Core.Path.{◌≡◌, refl}
 use mathlib.Core.List.{List, [], ◌∷◌}
 use lib.ListN.{get_or}
-use Prim.Native.Nat.{ℕ, zero, suc, ◌<◌}
+use Prim.Native.Nat.{ℕ, zero, suc, ◌≤◌, ◌<◌}
 use native.Mathlib.Omega.{arith}
-use Rattle.move_row.specs.Tables.{number}
+use Rattle.moves.specs.Moves.{all_moves, phase2_moves}
+use Rattle.move_row.specs.Tables.{number, table_at}
 use Rattle.move_row.specs.declared.MoveTable.{MoveTable}
 use Rattle.move_row.specs.declared.MoveTable.TheVariants as table
 
@@ -16,6 +17,30 @@ by-table P a b c d e f (suc (suc (suc zero))) h = d
 by-table P a b c d e f (suc (suc (suc (suc zero)))) h = e
 by-table P a b c d e f (suc (suc (suc (suc (suc zero))))) h = f
 by-table P a b c d e f (suc (suc (suc (suc (suc (suc t)))))) h = absurd (omega arith)
+
+-- the first three have a column for each of the 18 moves, the others for the ten of phase 2
+pub first-moves : (t : ℕ) → t < 3 → (table_at t).moves ≡ all_moves
+first-moves zero h = refl
+first-moves (suc zero) h = refl
+first-moves (suc (suc zero)) h = refl
+first-moves (suc (suc (suc t))) h = absurd (omega arith)
+
+pub second-moves : (t : ℕ) → t < 6 → 3 ≤ t → (table_at t).moves ≡ phase2_moves
+second-moves =
+    by-table (λ t. 3 ≤ t → (table_at t).moves ≡ phase2_moves) (λ h. absurd (omega arith)) (λ h. absurd (omega arith)) (λ h. absurd (omega arith)) (λ h. refl) (λ h. refl) (λ h. refl)
+
+-- what is left when the numbers of some tables are ruled out
+pub others-rows : (t : ℕ) → t < 6 → (t ≡ 0 → ⊥) → (t ≡ 1 → ⊥) → (t ≡ 2 → ⊥) → (t ≡ 5 → ⊥) → 40320 ≡ (table_at t).kind.count
+others-rows =
+    by-table (λ t. (t ≡ 0 → ⊥) → (t ≡ 1 → ⊥) → (t ≡ 2 → ⊥) → (t ≡ 5 → ⊥) → 40320 ≡ (table_at t).kind.count)
+    (λ a b c d. absurd (a refl)) (λ a b c d. absurd (b refl)) (λ a b c d. absurd (c refl)) (λ a b c d. refl) (λ a b c d. refl) (λ a b c d. absurd (d refl))
+
+pub others-places : (t : ℕ) → t < 6 → (t ≡ 0 → ⊥) → (t ≡ 3 → ⊥) → 12 ≡ (table_at t).kind.places
+others-places =
+    by-table (λ t. (t ≡ 0 → ⊥) → (t ≡ 3 → ⊥) → 12 ≡ (table_at t).kind.places) (λ a b. absurd (a refl)) (λ a b. refl) (λ a b. refl) (λ a b. absurd (b refl)) (λ a b. refl) (λ a b. refl)
+
+pub the-sixth : (t : ℕ) → t < 6 → (t ≡ 0 → ⊥) → (t ≡ 1 → ⊥) → (t ≡ 2 → ⊥) → (t ≡ 3 → ⊥) → (t ≡ 4 → ⊥) → t ≡ 5
+the-sixth t h a b c d e = omega arith
 
 -- the number of a table is one of the six
 pub number-lt : (t : MoveTable) → number t < 6

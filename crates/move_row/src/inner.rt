@@ -1,8 +1,9 @@
-// What stands below a row of a move table: the cubes of the moves, and the arrangement of a row.
-ghost use Rattle.std.specs.Prelude.{◌≡◌, ◌++◌, ◌<◌, replicate, take};
-ghost use Rattle.move_row.specs.Tables.{number, table_at, move_cubes, row_places};
+// What stands below a row of a move table: the moves of its columns, the cubes of the moves, and the arrangement of a row.
+ghost use Rattle.std.specs.Prelude.{◌≡◌, ◌++◌, ◌<◌, get_or, replicate, take};
+ghost use Rattle.move_row.specs.Tables.{number, table_at, columns, move_cubes, row_places};
 
 use crate::MoveTable;
+use columns::inner::{phase1_move, phase2_move};
 use cubie::CubieCube;
 use cubie::inner::move_state;
 use numbering::inner::index_to_e_combo;
@@ -10,6 +11,18 @@ use numbering::{Co, Cp, ECombo, EEp, Eo, UdEp};
 use orientation::inner::{index_to_co, index_to_eo};
 use permutation::inner::{index_to_cp, index_to_e_ep, index_to_ud_ep};
 use std::array;
+
+// The move of column j.
+pub fn column_move(t: MoveTable, j: usize) -> usize
+    requires { j < columns (table_at (number t)) }
+    ensures { result ≡ get_or (table_at (number t)).moves j 0 }
+{
+    let m = match t {
+        MoveTable::Co | MoveTable::Eo | MoveTable::ECombo => phase1_move(j),
+        MoveTable::Cp | MoveTable::UdEp | MoveTable::EEp => phase2_move(j),
+    };
+    m as usize
+}
 
 // The cubes of the 18 moves by their numbers.
 pub fn move_cubes() -> [CubieCube; 18]

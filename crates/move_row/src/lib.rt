@@ -1,10 +1,8 @@
 // What a row of a move table is made from: part of kewb's src/two_phase/moves.rs.
 #![tactic(auto)]
 
-ghost use Rattle.std.specs.Prelude.{◌≡◌, ◌≤◌, ◌<◌, get_or, MatchOption};
+ghost use Rattle.std.specs.Prelude.{◌≡◌, ◌≤◌, MatchOption};
 ghost use Rattle.move_row.specs.Tables.{number, table_at, columns};
-
-use columns::inner::{phase1_move, phase2_move};
 
 pub mod inner;
 
@@ -80,17 +78,5 @@ impl MoveTable {
             MoveTable::Co | MoveTable::Cp => 8,
             MoveTable::Eo | MoveTable::ECombo | MoveTable::UdEp | MoveTable::EEp => 12,
         }
-    }
-
-    // The move of column j.
-    pub fn column_move(self, j: usize) -> usize
-        requires { j < columns (table_at (number self)) }
-        ensures { result ≡ get_or (table_at (number self)).moves j 0 }
-    {
-        let m = match self {
-            MoveTable::Co | MoveTable::Eo | MoveTable::ECombo => phase1_move(j),
-            MoveTable::Cp | MoveTable::UdEp | MoveTable::EEp => phase2_move(j),
-        };
-        m as usize
     }
 }

@@ -8,7 +8,7 @@ use crate::E_EP_TABLE;
 use cubie::CubieCube;
 use move_after::inner::entry_after;
 use move_row::MoveTable;
-use move_row::inner::{move_cubes, row_places};
+use move_row::inner::{column_move, move_cubes, row_places};
 
 // ---- the builder
 
@@ -20,7 +20,7 @@ fn fill_row(t: MoveTable, i: u16, cubes: &[CubieCube; 18], row: &mut [u16])
     let a = row_places(t, i);
     let n = t.places();
     for (j, entry) in row.iter_mut().enumerate() {
-        *entry = entry_after(t, &a[..n], cubes, t.column_move(j));
+        *entry = entry_after(t, &a[..n], cubes, column_move(t, j));
     }
 }
 
@@ -57,7 +57,7 @@ fn bad_in_row(t: MoveTable, i: u16, cubes: &[CubieCube; 18], row: &[u16]) -> Opt
     let n = t.places();
     // a loop: under `position` the proof of what `entry_after` asks for at each column did not close
     for (j, entry) in row.iter().enumerate() {
-        if *entry != entry_after(t, &a[..n], cubes, t.column_move(j)) {
+        if *entry != entry_after(t, &a[..n], cubes, column_move(t, j)) {
             return Some(j);
         }
     }

@@ -6,6 +6,7 @@ ghost use Rattle.pair_table.specs.Pairs.{held, Fine};
 ghost use Rattle.pair_check.specs.Rule.{Tells};
 
 use pair_table::Pairs;
+use pair_table::inner::{neighbour_of, rows_of};
 
 // What the table holds at q: 255 past its end, so that no entry of a move table leads out of it.
 fn held_at(tab: &[u8], q: usize) -> u8
@@ -27,10 +28,10 @@ fn pair_fine(pairs: &Pairs, tab: &[u8], p: usize) -> bool
     if v == 0 {
         return false;
     }
-    let (i, j) = pairs.rows_of(p);
+    let (i, j) = rows_of(pairs, p);
     let mut one = false;
     for m in 0..pairs.moves {
-        let w = held_at(tab, pairs.neighbour(i, j, m));
+        let w = held_at(tab, neighbour_of(pairs, i, j, m));
         if w < v - 1 {
             return false;
         }

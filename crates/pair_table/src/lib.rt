@@ -1,7 +1,7 @@
 // A pruning table over any two move tables: the builder in kewb's src/two_phase/pruning.rs.
 #![tactic(auto)]
 
-ghost use Rattle.std.specs.Prelude.{◌≡◌, ◌+◌, ◌*◌, ◌/◌, ◌%◌, ◌<◌, ◌↔◌, get_or, IsTrue, MatchOption, Err};
+ghost use Rattle.std.specs.Prelude.{◌≡◌, ◌*◌, ◌↔◌, IsTrue, MatchOption, Err};
 ghost use Rattle.base.specs.Lists.{Under};
 ghost use Rattle.pair_table.specs.Answers.{number_of};
 ghost use Rattle.pair_table.specs.Tables.{Fits};
@@ -77,26 +77,6 @@ impl<'a> Pairs<'a> {
         ensures { result ≡ self.now.rows1 * self.now.rows2 }
     {
         self.rows1 * self.rows2
-    }
-
-    // The two rows of pair p. Its number fits 32 bits, in which a division is quicker.
-    pub fn rows_of(&self, p: usize) -> (usize, usize)
-        requires { p < self.now.rows1 * self.now.rows2 }
-        ensures first { result.0 ≡ p / self.now.rows2 }
-        ensures second { result.1 ≡ p % self.now.rows2 }
-    {
-        let (p, n) = (p as u32, self.rows2 as u32);
-        ((p / n) as usize, (p % n) as usize)
-    }
-
-    // The pair after move m of the pair (i, j).
-    pub fn neighbour(&self, i: usize, j: usize, m: usize) -> usize
-        requires { (i < self.now.rows1) × (j < self.now.rows2) × (m < self.now.moves) }
-        ensures { result ≡ get_or self.now.first.now (i * self.now.moves + m) 0 * self.now.rows2 + get_or self.now.second.now (j * self.now.moves + m) 0 }
-    {
-        let a = self.first[i * self.moves + m] as usize;
-        let b = self.second[j * self.moves + m] as usize;
-        a * self.rows2 + b
     }
 
     // Whether every entry of both tables is below its count.

@@ -46,7 +46,7 @@ pub fn solve_phase1(
         }
         return rest as u64;
     }
-    if prune(tables, x, d) {
+    if prune(tables.prunes, x, d) {
         return rest as u64;
     }
     step_phase1(tables, cube, limit, x, n, one, two, d, left)
@@ -119,10 +119,10 @@ fn walk_phase1(
         e,
         last: NO_MOVE,
     };
-    match next(tables, x, j, NO_MOVE) {
+    match next(tables.moves, x, j, NO_MOVE) {
         None => return REFUSED * HIGH + (left as u64),
         Some(y) => {
-            if cut_at_once(tables, y, d, left) {
+            if cut_at_once(tables.prunes, y, d, left) {
                 let s = left - 1;
                 return walk_phase1(tables, cube, limit, co, eo, e, n, one, two, d, on, s);
             }

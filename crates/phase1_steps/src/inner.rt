@@ -1,5 +1,5 @@
 // The steps of phase 1 below its search: positions, cuts and turns, and phase 2 at an end. The cube is lent as 40 bytes: a struct would be copied on each call.
-ghost use Rattle.std.specs.Prelude.{◌≡◌, true, ◌<◌};
+ghost use Rattle.std.specs.Prelude.{◌≡◌, true, ◌<◌, length};
 ghost use Rattle.cubie.specs.Cube.{refusal_of};
 ghost use Rattle.cubie.specs.Solvable.{solvable};
 ghost use Rattle.phase2_steps.specs.Rules.{Below, phase1, ends_of, cut_of, cut_at_once, go_of, below_of};
@@ -12,7 +12,7 @@ use move_table::{E_COMBO_AT, EO_AT};
 use numbering::inner::e_combo_to_index;
 use numbering::{Co, ECombo, Eo};
 use orientation::inner::{co_to_index, eo_to_index};
-use pruning_table::{EO_E_AT, Tables};
+use pruning_table::EO_E_AT;
 
 // The position of a cube, with no move made yet.
 pub fn phase1_state(cube: CubieCube) -> Phase1State
@@ -35,23 +35,25 @@ pub fn is_solved(x: Phase1State) -> bool
 }
 
 // Whether the larger of the two pruning entries is above the depth still to go.
-pub fn prune(tables: &Tables, x: Phase1State, d: usize) -> bool
-    requires { Below phase1 (of1 x) }
-    ensures { result ≡ cut_of phase1 (fars1 tables.now.prunes.now) (of1 x) d }
+pub fn prune(prunes: &[u8], x: Phase1State, d: usize) -> bool
+    requires prunes_len { length prunes.now ≡ 4031685 }
+    requires below { Below phase1 (of1 x) }
+    ensures { result ≡ cut_of phase1 (fars1 prunes.now) (of1 x) d }
 {
     let e = x.e.0 as usize;
-    let p = tables.prunes[(x.co.0 as usize) * 495 + e] as usize;
-    let q = tables.prunes[EO_E_AT + ((x.eo.0 as usize) * 495 + e)] as usize;
+    let p = prunes[(x.co.0 as usize) * 495 + e] as usize;
+    let q = prunes[EO_E_AT + ((x.eo.0 as usize) * 495 + e)] as usize;
     // both entries are read before the one test: two misses of the cache at once, and one branch
     d < p.max(q)
 }
 
 // Whether an entry into x is paid for and cut, so that no more comes of it: a call is spared.
-pub fn cut_at_once(tables: &Tables, x: Phase1State, d: usize, left: u32) -> bool
-    requires { Below phase1 (of1 x) }
-    ensures { result ≡ cut_at_once phase1 (fars1 tables.now.prunes.now) (of1 x) d left }
+pub fn cut_at_once(prunes: &[u8], x: Phase1State, d: usize, left: u32) -> bool
+    requires prunes_len { length prunes.now ≡ 4031685 }
+    requires below { Below phase1 (of1 x) }
+    ensures { result ≡ cut_at_once phase1 (fars1 prunes.now) (of1 x) d left }
 {
-    left != 0 && d != 0 && prune(tables, x, d)
+    left != 0 && d != 0 && prune(prunes, x, d)
 }
 
 // The position x, with m as the move that led to it.
@@ -62,14 +64,15 @@ pub fn after(x: Phase1State, m: u8) -> Phase1State
 }
 
 // The position after m, the move of column j, by the three move tables.
-pub fn next(tables: &Tables, x: Phase1State, j: usize, m: u8) -> Option<Phase1State>
+pub fn next(moves: &[u16], x: Phase1State, j: usize, m: u8) -> Option<Phase1State>
+    requires moves_len { length moves.now ≡ 891780 }
     requires below { Below phase1 (of1 x) }
     requires j_bound { j < 18 }
-    ensures { result ≡ turned1 (below_of phase1 (go_of phase1 (turns1 tables.now.moves.now) (of1 x) j)) (go_of phase1 (turns1 tables.now.moves.now) (of1 x) j) m }
+    ensures { result ≡ turned1 (below_of phase1 (go_of phase1 (turns1 moves.now) (of1 x) j)) (go_of phase1 (turns1 moves.now) (of1 x) j) m }
 {
-    let a = tables.moves[(x.co.0 as usize) * 18 + j];
-    let b = tables.moves[EO_AT + ((x.eo.0 as usize) * 18 + j)];
-    let c = tables.moves[E_COMBO_AT + ((x.e.0 as usize) * 18 + j)];
+    let a = moves[(x.co.0 as usize) * 18 + j];
+    let b = moves[EO_AT + ((x.eo.0 as usize) * 18 + j)];
+    let c = moves[E_COMBO_AT + ((x.e.0 as usize) * 18 + j)];
     if a < 2187 && b < 2048 && c < 495 {
         Some(Phase1State {
             co: Co(a),

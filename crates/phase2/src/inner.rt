@@ -41,10 +41,10 @@ fn enter_phase2(
     while set != 0 {
         let j = first_column(set);
         set = other_columns(set);
-        match next(tables, x, j, NO_MOVE) {
+        match next(tables.moves, x, j, NO_MOVE) {
             None => return REFUSED * HIGH + (rest as u64),
             Some(y) => {
-                if cut_at_once(tables, y, d - 1, rest) {
+                if cut_at_once(tables.prunes, y, d - 1, rest) {
                     rest -= 1;
                 } else {
                     let m = phase2_move(j);
@@ -76,7 +76,7 @@ pub fn solve_phase2(
     requires holds { Holds path.old n }
     ensures { Gives2 (enter (rules2 (turns2 tables.now.moves.now) (fars2 tables.now.prunes.now)) d (at (of2 x) x.last (take n path.old)) left) result path.old path.new }
 {
-    if cut_at_once(tables, x, d, left) {
+    if cut_at_once(tables.prunes, x, d, left) {
         return (left - 1) as u64;
     }
     enter_phase2(tables, x, n, path, d, left)

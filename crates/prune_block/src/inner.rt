@@ -7,9 +7,8 @@ ghost use Rattle.pruning_table.specs.Block.{AllBelow, AllFilled, Missing, SomeMi
 ghost use Rattle.pruning_table.specs.Check.{prune_number, rows, part, Blocks};
 
 use move_row::MoveTable;
-use pair_build::inner::get_prune_table;
-use pair_table::Pairs;
 use pair_table::inner::all_below;
+use prune_tables::get_table;
 use pruning_table::{PruneTable, move_begins};
 
 // Whether the entries of move table t are below its count.
@@ -46,15 +45,10 @@ fn fill_part(t: PruneTable, moves: &[u16], prunes: &mut [u8]) -> bool
     let (n1, n2) = (a.rows(), b.rows());
     let (at1, at2) = (move_begins(a), move_begins(b));
     let at = t.begins();
-    let pairs = Pairs {
-        first: &moves[at1..at1 + n1 * k],
-        second: &moves[at2..at2 + n2 * k],
-        rows1: n1,
-        rows2: n2,
-        moves: k,
-    };
+    let first = &moves[at1..at1 + n1 * k];
+    let second = &moves[at2..at2 + n2 * k];
     // the lengths and the scan rule out the other two errors
-    get_prune_table(&pairs, &mut prunes[at..at + n1 * n2]).is_err()
+    get_table(t, first, second, &mut prunes[at..at + n1 * n2]).is_err()
 }
 
 // All four, one after the other; whether some pair is out of reach.

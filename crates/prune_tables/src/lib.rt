@@ -5,6 +5,7 @@ ghost use Rattle.move_row.specs.Tables.{table_at, columns};
 ghost use Rattle.pair_table.specs.Answers.{Outcome, AnyOutcome};
 ghost use Rattle.pruning_table.specs.Check.{prune_number, first_of, second_of, rows};
 
+use pair_build::inner;
 use pair_table::{BuildError, Pairs};
 use pruning_table::PruneTable;
 
@@ -20,7 +21,7 @@ pub fn get_prune_table(
     ensures { AnyOutcome first.now second.now rows1 rows2 moves table.old table.new result }
 {
     match Pairs::new(first, second, rows1, rows2, moves) {
-        Some(pairs) => pair_build::inner::get_prune_table(&pairs, table),
+        Some(pairs) => inner::get_pairs_table(&pairs, table),
         None => Err(BuildError::Length),
     }
 }
@@ -35,7 +36,11 @@ pub fn get_table(
     ensures { Outcome first.now second.now (rows (first_of (prune_number t))) (rows (second_of (prune_number t)))
         (columns (table_at (first_of (prune_number t)))) table.old table.new result }
 {
-    let (rows1, rows2) = (t.first().rows(), t.second().rows());
-    let moves = t.first().columns();
-    get_prune_table(first, second, table, rows1, rows2, moves)
+    // each by its own constants: the compiler then builds each table by a loop of its own
+    match t {
+        PruneTable::CoE => inner::get_prune_table(first, second, table, 2187, 495, 18),
+        PruneTable::EoE => inner::get_prune_table(first, second, table, 2048, 495, 18),
+        PruneTable::CpE => inner::get_prune_table(first, second, table, 40320, 24, 10),
+        PruneTable::EpE => inner::get_prune_table(first, second, table, 40320, 24, 10),
+    }
 }

@@ -141,6 +141,12 @@ module _ {t a b k n1 n2 i j p : ℕ} (s : Spot t a b k n1 n2 i j p) (moves prune
         → Refilled moves t prunes (put_mid p (p + n1 * n2 - p) prunes ys) × Decides (Missing t (put_mid p (p + n1 * n2 - p) prunes ys)) true
     unreached-fills o = (refilled o.2, some-missing o.3)
 
+  pub no_length : {ys : List ℕ} → Outcome first second n1 n2 k lent ys (Err Length) → ⊥
+  no_length o = o.0 (spot-sizes s moves prunes w)
+
+  pub no-entry : {ys : List ℕ} → Outcome first second n1 n2 k lent ys (Err Entry) → ⊥
+  no-entry o = o.1 (under1, under2)
+
   -- whatever it answered, an error says that some pair is out of reach: the lengths and the scan rule out the others
   pub part-fills : (ys : List ℕ) → length ys ≡ length lent → (r : Built) → Outcome first second n1 n2 k lent ys r
       → Refilled moves t prunes (put_mid p (p + n1 * n2 - p) prunes ys) × Decides (Missing t (put_mid p (p + n1 * n2 - p) prunes ys)) (is_err r)

@@ -25,6 +25,17 @@ prune_ge table.EoE = omega arith
 prune_ge table.CpE = omega arith
 prune_ge table.EpE = omega arith
 
+-- ---- the last of the cases of a match
+
+pub the-ninth : (t : ℕ) → t < 10 → 6 ≤ t → (t ≡ 6 → ⊥) → (t ≡ 7 → ⊥) → (t ≡ 8 → ⊥) → t ≡ 9
+the-ninth t h k a b c = omega arith
+
+pub second-low : (t : ℕ) → t < 10 → 6 ≤ t → t < 8 → 2 ≡ second_of t
+second-low = by-prune (λ t. t < 8 → 2 ≡ second_of t) (λ h. refl) (λ h. refl) (λ h. absurd (omega arith)) (λ h. absurd (omega arith))
+
+pub second-high : (t : ℕ) → t < 10 → 6 ≤ t → 8 ≤ t → 5 ≡ second_of t
+second-high = by-prune (λ t. 8 ≤ t → 5 ≡ second_of t) (λ h. absurd (omega arith)) (λ h. absurd (omega arith)) (λ h. refl) (λ h. refl)
+
 -- ---- the slice
 
 pub slice_is : (t : ℕ) (block : List ℕ) (at len : ℕ) → at ≡ begins_at t → len ≡ entries t → take (at + len - at) (drop at block) ≡ part t block

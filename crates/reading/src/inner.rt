@@ -66,13 +66,15 @@ fn read_corners(s: &[u8]) -> ([u8; 8], [u8; 8])
         let twist = twist_seen(at_corner(s, i, 0), at_corner(s, i, 1));
         let a = at_corner(s, i, (twist + 1) % 3);
         let b = at_corner(s, i, (twist + 2) % 3);
-        let piece = 'pieces: {
-            for j in 0..8 {
-                if corner_fits(a, b, j) {
-                    break 'pieces Some(j);
-                }
+        let mut j: usize = 0;
+        let piece = 'pieces: loop {
+            if j == 8 {
+                break 'pieces None;
             }
-            None
+            if corner_fits(a, b, j) {
+                break 'pieces Some(j);
+            }
+            j += 1;
         };
         (cp[i], co[i]) = match piece {
             Some(j) => (j as u8, twist as u8),
@@ -93,13 +95,15 @@ fn read_edges(s: &[u8]) -> ([u8; 12], [u8; 12])
     'places: for i in 0..12 {
         let a = at_edge(s, i, 0);
         let b = at_edge(s, i, 1);
-        let way = 'ways: {
-            for k in 0..24 {
-                if edge_fits(a, b, k) {
-                    break 'ways Some(k);
-                }
+        let mut k: usize = 0;
+        let way = 'ways: loop {
+            if k == 24 {
+                break 'ways None;
             }
-            None
+            if edge_fits(a, b, k) {
+                break 'ways Some(k);
+            }
+            k += 1;
         };
         (ep[i], eo[i]) = match way {
             Some(k) => ((k / 2) as u8, (k % 2) as u8),

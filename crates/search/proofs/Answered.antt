@@ -1,14 +1,18 @@
 -- The public function, case by case: the tests of its inputs in their order, the whole search as its loop runs it, and the last check. Assumes nothing.
-use Prim.Native.Nat.{ℕ, ◌+◌, ◌<◌, ◌≤◌}
-use mathlib.Core.Path.{◌≡◌, refl, ap, ◌∙◌}
-use mathlib.Core.Bool.{Bool, true, false, ◌&&◌}
+use Prim.Native.Nat.{ℕ, zero, ◌+◌, ◌<◌, ◌≤◌}
+use mathlib.Core.Path.{◌≡◌, refl, sym, ap, ◌∙◌}
+use mathlib.Core.Bool.{Bool, true, false, ◌&&◌, false≢true}
 use mathlib.Core.List.{List, [], ◌++◌}
 use lib.Dec.{leb, eqb}
 use lib.ListN.{length}
 use native.Mathlib.Nat.{sub-zero}
-use borrow.Author.Tests.{le-leb, lt-leb, eq-eqb, ne_eqb}
+use native.Mathlib.Omega.{arith}
+use borrow.Author.Tests.{le-leb, lt-leb, eq-eqb, ne_eqb, eqb-true}
 use Rattle.base.specs.Lists.{pick}
 use Rattle.base.specs.Search.{Res, deepen, deepen_from, enter}
+use Rattle.cubie.specs.Answers.{solvable_refusal}
+use Rattle.cubie.specs.Cube.{refusal_of}
+use Rattle.cubie.specs.Solvable.{solvable}
 use Rattle.cubie.specs.declared.CubieCube.{CubieCube}
 use Rattle.phase2_steps.specs.Rules.{Coords, Ans, at}
 use Rattle.phase2_steps.specs.Second.{turns2, fars2}
@@ -35,6 +39,26 @@ pub runs-all : (m p : List ℕ) (limit budget : ℕ) {cube b : CubieCube} {c : C
 unfolding table_solve deepen_from
 runs-all m p limit budget {cube} {b} {c} {k} e f g =
     ap (λ (n : ℕ). deepen (run m p b limit c k) 0 n budget) (sub-zero (limit + 1)) ∙ (λ i. deepen (run m p (e i) limit (f i) (g i)) 0 (limit + 1) budget)
+
+-- ---- the refusal before the search
+
+module _ (cube : CubieCube) where
+  pub range-refused : (refusal_of cube ≡ 0 → ⊥) → search_refusal cube ≡ refusal_of cube
+  unfolding solvable_refusal
+  range-refused h = ap (λ (b : Bool). pick b (pick (solvable cube) 0 6) (refusal_of cube)) (ne_eqb (refusal_of cube) 0 h)
+
+  pub solvable-refused : {b : Bool} → refusal_of cube ≡ 0 → solvable cube ≡ b → search_refusal cube ≡ pick b 0 6
+  unfolding solvable_refusal
+  solvable-refused h s = λ i. pick (eq-eqb (refusal_of cube) 0 h i) (pick (s i) 0 6) (refusal_of cube)
+
+  pub to-search : search_refusal cube ≡ 0 → (refusal_of cube ≡ 0) × (solvable cube ≡ true)
+  unfolding solvable_refusal
+  to-search e = go (eqb (refusal_of cube) 0) (solvable cube) refl refl e
+    where
+      go : (a b : Bool) → eqb (refusal_of cube) 0 ≡ a → solvable cube ≡ b → pick a (pick b 0 6) (refusal_of cube) ≡ zero → (refusal_of cube ≡ 0) × (solvable cube ≡ true)
+      go true true p q e = (eqb-true _ _ p, q)
+      go true false p q e = absurd (omega (arith, e))
+      go false b p q e = (e, absurd (false≢true (sym p ∙ eq-eqb _ _ e)))
 
 -- ---- the tests before the search
 
@@ -69,6 +93,14 @@ module _ (cube : CubieCube) (limit budget : ℕ) (m p : List ℕ) where
 
   pub solve-limit : 31 < limit → solve_of cube limit budget m p ≡ no_lists (found.Refused refusal.Limit) 0
   solve-limit l = solve-refuses refusal.Limit (refuses _ 8 tt (over-limit cube limit m p l))
+
+  module _ (l : limit ≤ 31) where
+    pub solve-moves : (length m ≡ 891780 → ⊥) → solve_of cube limit budget m p ≡ no_lists (found.Refused refusal.Length) 0
+    solve-moves e = solve-refuses refusal.Length (refuses _ 9 tt (other-moves cube limit m p l e))
+
+    module _ (e : length m ≡ 891780) where
+      pub solve-prunes : (length p ≡ 4031685 → ⊥) → solve_of cube limit budget m p ≡ no_lists (found.Refused refusal.Length) 0
+      solve-prunes f = solve-refuses refusal.Length (refuses _ 9 tt (other-prunes cube limit m p l e f))
 
   pub solve-searches : before_search cube limit m p ≡ 0 → solve_of cube limit budget m p ≡ searched cube limit budget m p
   unfolding solve_of

@@ -1,7 +1,7 @@
 -- The first number that passes a test, as a loop looks for it. Assumes nothing.
 use mathlib.Core.Path.{◌≡◌, sym, ap, ap₂, ◌∙◌}
 use mathlib.Core.Bool.{Bool, true, false}
-use Prim.Native.Nat.{ℕ, suc, ◌+◌, ◌-◌, ◌≤◌, ◌<◌}
+use Prim.Native.Nat.{ℕ, zero, suc, ◌+◌, ◌-◌, ◌≤◌, ◌<◌}
 use native.Mathlib.Numerals.{add-one}
 use native.Mathlib.Omega.{arith}
 use Rattle.base.specs.Lists.{pick}
@@ -23,3 +23,12 @@ module _ (p : ℕ → Bool) (n j : ℕ) where
   pub first-none : n ≤ j → first_from p j (n - j) ≡ j
   unfolding first_from
   first-none h = let z : n - j ≡ 0 = omega arith in ap (first_from p j) z
+
+pub first-le : (p : ℕ → Bool) (j m : ℕ) → first_from p j m ≤ j + m
+unfolding first_from
+first-le p j zero = omega arith
+first-le p j (suc m) = go (p j) (first-le p (suc j) m)
+  where
+    go : (b : Bool) → first_from p (suc j) m ≤ suc j + m → pick b j (first_from p (suc j) m) ≤ j + suc m
+    go true h = omega arith
+    go false h = omega arith

@@ -25,9 +25,9 @@ module _ (moves before : List ℕ) where
   refused six e n = record { sized = λ l. absurd (n (e ∙ sized-number l)); other = λ f. (e ∙ other-number f, refl) }
 
   -- else the pruning tables were built over the true ones
-  pub over-true : (six : ℕ) → six ≡ block_number moves → six ≡ 0 → (left : List ℕ) → left ≡ block_left moves → (after : List ℕ) (r : ℕ)
+  pub over_true : (six : ℕ) → six ≡ block_number moves → six ≡ 0 → (left : List ℕ) → left ≡ block_left moves → (after : List ℕ) (r : ℕ)
       → PrunesCall left before after r → BuildCall moves before after r
-  over-true six e z left k after r p =
+  over_true six e z left k after r p =
       record {
         sized = λ l. subst (λ (x : List ℕ). PrunesCall x before after r) (k ∙ ap (λ (b : Bool). pick b move_block moves) (eq-eqb (length moves) 891780 l)) p;
         other = λ f. absurd (omega (arith, e, z, other-number f));

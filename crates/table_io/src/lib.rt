@@ -11,6 +11,7 @@ use refusal::Refusal;
 pub mod inner;
 
 // Both blocks built, the move tables first.
+#[tactic(auto, using(crate::proofs::Results::over_true, crate::proofs::Results::refused))]
 pub fn build(moves: &mut [u16], prunes: &mut [u8]) -> Result<(), Refusal>
     ensures moves_after { moves.new ≡ block_left moves.old }
     ensures build_call { BuildCall moves.old prunes.old prunes.new (code result) }

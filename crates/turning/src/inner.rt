@@ -46,27 +46,45 @@ pub fn count_turns(s: &[u8], k: u8) -> u8
     count
 }
 
-// The pieces of `p` at the places that `q` names. (`map` of an array asks for a bound on the stack that no N shows.)
-pub fn permute<const N: usize>(p: &[u8], q: &[u8; N]) -> [u8; N]
+// The pieces of `p` at the places that `q` names.
+pub fn permute(p: &[u8], q: &[u8], out: &mut [u8])
+    requires { (length q.now ≡ length out.old) × Under (length p.now) q.now }
+    ensures { out.new ≡ compose p.now q.now }
+{
+    for (i, o) in out.iter_mut().enumerate() {
+        *o = p[q[i] as usize];
+    }
+}
+
+// The same as a row of N. (`map` of an array asks for a bound on the stack that no N shows.)
+pub fn permute_row<const N: usize>(p: &[u8], q: &[u8; N]) -> [u8; N]
     requires { Under (length p.now) q.now }
     ensures { result ≡ compose p.now q.now }
 {
     let mut out = [0; N];
-    for (i, o) in out.iter_mut().enumerate() {
-        *o = p[q[i] as usize];
-    }
+    permute(p, q, &mut out);
     out
 }
 
 // The twists of `t` at the places that `q` names, and those of `s` on top, modulo `k`.
-pub fn twist<const N: usize>(t: &[u8], q: &[u8; N], s: &[u8; N], k: u8) -> [u8; N]
+pub fn twist(t: &[u8], q: &[u8], s: &[u8], k: u8, out: &mut [u8])
+    requires q_len { (length q.now ≡ length out.old) × (length s.now ≡ length out.old) }
+    requires under { Under (length t.now) q.now }
+    requires under_2 { Under k t.now × Under k s.now × (0 < k) × (k ≤ 3) }
+    ensures { out.new ≡ twisted k t.now q.now s.now }
+{
+    for (i, o) in out.iter_mut().enumerate() {
+        *o = (t[q[i] as usize] + s[i]) % k;
+    }
+}
+
+// The same as a row of N.
+pub fn twist_row<const N: usize>(t: &[u8], q: &[u8; N], s: &[u8; N], k: u8) -> [u8; N]
     requires under { Under (length t.now) q.now }
     requires under_2 { Under k t.now × Under k s.now × (0 < k) × (k ≤ 3) }
     ensures { result ≡ twisted k t.now q.now s.now }
 {
     let mut out = [0; N];
-    for (i, o) in out.iter_mut().enumerate() {
-        *o = (t[q[i] as usize] + s[i]) % k;
-    }
+    twist(t, q, s, k, &mut out);
     out
 }

@@ -8,9 +8,10 @@ use lib.ListN.{length}
 use borrow.Author.Tests.{le-leb, lt-leb}
 use Rattle.base.specs.Lists.{pick, Under, in_range}
 use Rattle.base.proofs.Tests.{in_range-under, under-in_range}
-use Rattle.std.proofs.Common.{rules, Ok}
+use Rattle.std.proofs.Common.{rules, Ok, Err}
+use Rattle.refusal.specs.declared.Refusal.{Refusal}
 use Rattle.refusal.specs.Refusals.{answered}
-use Rattle.words.specs.Answers.{over, refusal, room_after, parsed_text, parsed_room}
+use Rattle.words.specs.Answers.{over, refusal, room_after, moves_counted, parsed_text, parsed_room}
 use Rattle.words.specs.Text.{text_of, parse}
 use Rattle.words.proofs.Text.{parse-text, text-parse}
 
@@ -26,6 +27,23 @@ module _ (ms out room : List ℕ) where
   pub none : in_range 18 ms ≡ true → length out ≤ length room → refusal ms out room ≡ 0
   unfolding refusal
   none e h = rw (e, le-leb (length out) (length room) h)
+
+-- what the count says of a text
+pub counted-moves : (ms : List ℕ) (n : ℕ) → moves_counted ms ≡ Ok n → (in_range 18 ms ≡ true) × (length ms ≡ n)
+unfolding moves_counted
+counted-moves ms n e = go (in_range 18 ms) e
+  where
+    go : (b : Bool) → answered (pick b 0 7) (length ms) ≡ Ok n → (b ≡ true) × (length ms ≡ n)
+    go true q = (refl, search rules)
+    go false q = search rules
+
+pub counted_none : (ms : List ℕ) (r : Refusal) → moves_counted ms ≡ Err r → in_range 18 ms ≡ false
+unfolding moves_counted
+counted_none ms r e = go (in_range 18 ms) e
+  where
+    go : (b : Bool) → answered (pick b 0 7) (length ms) ≡ Err r → b ≡ false
+    go true q = search rules
+    go false q = refl
 
 -- ---- the laws of Text.antt, of the public answers
 

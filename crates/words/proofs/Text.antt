@@ -1,17 +1,18 @@
 -- A text and its list of moves: the round trips, and what one turn of each loop does. Assumes nothing.
 use mathlib.Core.Path.{◌≡◌, refl, sym, ap, ap₂, ◌∙◌}
-use mathlib.Core.Bool.{Bool, true, false}
+use mathlib.Core.Bool.{Bool, true, false, ◌&&◌}
 use mathlib.Core.List.{List, [], ◌∷◌, ◌++◌, map, append-nil}
-use Prim.Native.Nat.{ℕ, suc, ◌+◌, ◌≤◌, ◌<◌}
+use Prim.Native.Nat.{ℕ, suc, ◌+◌, ◌-◌, ◌≤◌, ◌<◌}
 use native.Mathlib.Omega.{arith}
-use lib.Dec.{leb, eqb}
-use lib.ListN.{length, get_or, drop, length-append, drop_of_length-le}
-use borrow.Author.Tests.{eqb-true, leb-true, leb-false, le-leb, lt-leb}
-use Rattle.base.specs.Lists.{pick, Each, Under, range, same_list, total}
+use lib.Dec.{ltb, leb, eqb, leb-zero, leb-suc-suc}
+use lib.ListN.{length, get_or, take, drop, length-append, length-drop, drop_of_length-le}
+use lib.Seq.{drop-drop}
+use borrow.Author.Tests.{eqb-true, leb-true, leb-false, le-leb, lt-leb, lt-ltb, le-ltb}
+use Rattle.base.specs.Lists.{pick, Each, Under, in_range, range, same_list, total}
 use Rattle.base.proofs.Steps.{next}
 use Rattle.base.proofs.Tests.{below_true}
 use Rattle.words.specs.Text.{word_of, place, number_of, spaced, join, text_of, onto, split, words_of, parse}
-use Rattle.words.proofs.Words.{number_word, word_number}
+use Rattle.words.proofs.Words.{place-le, number_word, word_number}
 
 -- ---- words and spaces
 
@@ -42,6 +43,16 @@ split-words : (ws : List (List ℕ)) → Each Free ws → split (spaced ws) ≡ 
 unfolding split spaced
 split-words [] u = refl
 split-words (v ∷ ws) u = ap (λ (l : List (List ℕ)). [] ∷ l) (split-word v (spaced ws) ws u.0 (split-words ws u.1))
+
+-- the first word ends at the first space
+split_at : (t : List ℕ) → split t ≡ take (place (eqb 32) t) t ∷ pick (ltb (place (eqb 32) t) (length t)) (split (drop (suc (place (eqb 32) t)) t)) []
+unfolding split onto place
+split_at [] = refl
+split_at (c ∷ t) = go (place (eqb 32) t) (eqb 32 c) (split_at t)
+  where
+    go : (k : ℕ) (b : Bool) → split t ≡ take k t ∷ pick (ltb k (length t)) (split (drop (suc k) t)) [] → pick b ([] ∷ split t) (onto c (split t)) ≡ take (pick b 0 (suc k)) (c ∷ t) ∷ pick (ltb (pick b 0 (suc k)) (suc (length t))) (split (drop (suc (pick b 0 (suc k))) (c ∷ t))) []
+    go k true e = ap (λ (b : Bool). [] ∷ pick b (split t) []) (sym (lt-ltb 0 (suc (length t)) (omega arith)))
+    go k false e = ap (onto c) e ∙ ap (λ (b : Bool). (c ∷ take k t) ∷ pick b (split (drop (suc k) t)) []) (sym (leb-suc-suc (suc k) (length t)))
 
 split-some : (t : List ℕ) → 0 < length (split t)
 unfolding split onto
@@ -105,10 +116,74 @@ examples : (parse (82 ∷ 32 ∷ 85 ∷ 32 ∷ 82 ∷ 39 ∷ 32 ∷ 85 ∷ 39 �
 unfolding words_of split onto number_of word_of place range same_list
 examples = (refl, refl, refl, refl)
 
+-- ---- the loops that read a text
+
+leb-same : (a b c d : ℕ) → (a ≤ b → c ≤ d) → (b < a → d < c) → leb a b ≡ leb c d
+leb-same a b c d f g = go (leb a b) refl
+  where
+    go : (x : Bool) → leb a b ≡ x → x ≡ leb c d
+    go true e = sym (le-leb c d (f (leb-true a b e)))
+    go false e = sym (lt-leb c d (g (leb-false a b e)))
+
 pub parse-nothing : (t : List ℕ) → length t ≡ 0 → parse t ≡ []
 unfolding words_of
 parse-nothing [] e = refl
 parse-nothing (c ∷ t) e = absurd (omega arith)
+
+-- one number more to test
+pub range-in : {ms rest : List ℕ} {x : ℕ} → ms ≡ x ∷ rest → x < 18 → in_range 18 rest ≡ in_range 18 ms
+range-in {ms} {rest} {x} e h = sym (ap (in_range 18) e ∙ ap (λ (b : Bool). b && in_range 18 rest) (lt-ltb x 18 h))
+
+pub range-out : {ms rest : List ℕ} {x : ℕ} → ms ≡ x ∷ rest → 18 ≤ x → in_range 18 ms ≡ false
+range-out {ms} {rest} {x} e h = ap (in_range 18) e ∙ ap (λ (b : Bool). b && in_range 18 rest) (le-ltb x 18 h)
+
+-- the words from the place `at` on, which starts a word or lies behind the end
+words_from : List ℕ → ℕ → List (List ℕ)
+words_from [] at = []
+words_from (c ∷ t) at = pick (leb at (suc (length t))) (split (drop at (c ∷ t))) []
+
+-- and their numbers
+pub numbers_from : List ℕ → ℕ → List ℕ
+numbers_from t at = map number_of (words_from t at)
+
+pub numbers-all : (t : List ℕ) → numbers_from t 0 ≡ parse t
+unfolding numbers_from words_from words_of
+numbers-all [] = refl
+numbers-all (c ∷ t) = ap (λ (b : Bool). map number_of (pick b (split (c ∷ t)) [])) (leb-zero (suc (length t)))
+
+pub numbers-end : (t : List ℕ) (at : ℕ) → length t < at → numbers_from t at ≡ []
+unfolding numbers_from words_from
+numbers-end [] at h = refl
+numbers-end (c ∷ t) at h = ap (λ (b : Bool). map number_of (pick b (split (drop at (c ∷ t))) [])) (lt-leb at (suc (length t)) h)
+
+-- where a word is left, the place is in the text
+pub numbers-in : (t : List ℕ) (at : ℕ) → 0 < length (numbers_from t at) → (0 < length t) × (at ≤ length t)
+unfolding numbers_from words_from
+numbers-in [] at h = absurd (omega arith)
+numbers-in (c ∷ t) at h = (omega arith, go (leb at (suc (length t))) refl h)
+  where
+    go : (b : Bool) → leb at (suc (length t)) ≡ b → 0 < length (map number_of (pick b (split (drop at (c ∷ t))) [])) → at ≤ suc (length t)
+    go true e l = leb-true at (suc (length t)) e
+    go false e l = absurd (omega arith)
+
+pub end-le : (t : List ℕ) (at : ℕ) → at ≤ length t → at + place (eqb 32) (drop at t) ≤ length t
+end-le t at h = omega (arith, place-le (eqb 32) (drop at t), length-drop at t)
+
+-- the word at `at`, which ends at e, and those behind it
+pub numbers-next : (t : List ℕ) (at e : ℕ) → 0 < length t → at ≤ length t → e ≡ at + place (eqb 32) (drop at t) → numbers_from t at ≡ number_of (take (e - at) (drop at t)) ∷ numbers_from t (e + 1)
+unfolding numbers_from words_from
+numbers-next [] at e p h q = absurd (omega arith)
+numbers-next (c ∷ t) at e p h q =
+    let s : List ℕ = c ∷ t in
+    let k = place (eqb 32) (drop at s) in
+    let n : e - at ≡ k = omega arith in
+    let m : at + suc k ≡ e + 1 = omega arith in
+    let b : ltb k (length (drop at s)) ≡ leb (e + 1) (length s) =
+    leb-same (suc k) (length (drop at s)) (e + 1) (length s) (λ l. omega (arith, length-drop at s)) (λ l. omega (arith, length-drop at s)) in
+    ap (λ (x : Bool). map number_of (pick x (split (drop at s)) [])) (le-leb at (length s) h)
+    ∙ ap (map number_of) (split_at (drop at s))
+    ∙ ap₂ (λ (i : ℕ) (l : List ℕ). number_of (take i (drop at s)) ∷ map number_of (pick (ltb k (length (drop at s))) (split l) [])) (sym n) (drop-drop (suc k) at s ∙ ap (λ (i : ℕ). drop i s) m)
+    ∙ ap (λ (x : Bool). number_of (take (e - at) (drop at s)) ∷ map number_of (pick x (split (drop (e + 1) s)) [])) b
 
 -- ---- the loops that make a text
 
@@ -154,13 +229,6 @@ unfolding spaced
 spaced-size [] = refl
 spaced-size (m ∷ ms) = omega (arith, length-append (word_of m) (spaced (map word_of ms)), spaced-size ms)
 
-leb-same : (a b c d : ℕ) → (a ≤ b → c ≤ d) → (b < a → d < c) → leb a b ≡ leb c d
-leb-same a b c d f g = go (leb a b) refl
-  where
-    go : (x : Bool) → leb a b ≡ x → x ≡ leb c d
-    go true e = sym (le-leb c d (f (leb-true a b e)))
-    go false e = sym (lt-leb c d (g (leb-false a b e)))
-
 pub text-fits : (ms : List ℕ) (room : ℕ) → leb (total need ms) (room + 1) ≡ leb (length (text_of ms)) room
 unfolding join
 text-fits [] room = leb-same 0 (room + 1) 0 room (λ h. omega arith) (λ h. omega arith)
@@ -170,3 +238,7 @@ text-fits (m ∷ ms) room =
   where
     omega-size : (m : ℕ) (ms : List ℕ) → total need (m ∷ ms) ≡ length (word_of m ++ spaced (map word_of ms)) + 1
     omega-size m ms = omega (arith, length-append (word_of m) (spaced (map word_of ms)), spaced-size ms)
+
+-- what a word takes of the room
+pub fits_more : (n t left : ℕ) → n ≤ left → leb t (left - n) ≡ leb (n + t) left
+fits_more n t left h = leb-same t (left - n) (n + t) left (λ l. omega arith) (λ l. omega arith)

@@ -6,12 +6,13 @@ use Prim.Native.Nat.{ℕ, zero, suc, ◌+◌, ◌-◌, ◌*◌, ◌/◌, ◌%◌
 use native.Mathlib.Nat.{le_of_suc-le-suc, not-suc-le-zero}
 use native.Mathlib.Omega.{arith}
 use lib.Dec.{ltb, leb, eqb}
-use lib.ListN.{length, get_or, get_or-map}
+use lib.ListN.{length, get_or, drop, get_or-map, drop_of_length-le}
 use borrow.Author.Tests.{eqb-true, eqb-false, eq-eqb, ne_eqb, ltb-true, ltb-false, leb-true}
 use Rattle.std.specs.Prelude.{Some, None}
 use Rattle.std.specs.List.{position, position_or_len}
 use Rattle.std.proofs.lemmas.List.Recursion.{is_position_or_len}
 use Rattle.base.specs.Lists.{pick, range, same_list}
+use Rattle.base.proofs.Steps.{next}
 use Rattle.base.proofs.Tests.{and-true, below_true, same_list-is}
 use Rattle.words.specs.Text.{letters, marks, word_of, place, number_of}
 
@@ -35,6 +36,21 @@ module _ {A : Type 0} (p : A → Bool) where
       go : (b : Bool) → (place p xs < length xs → p (get_or xs (place p xs) d) ≡ true) → p x ≡ b → pick b 0 (suc (place p xs)) < suc (length xs) → p (get_or (x ∷ xs) (pick b 0 (suc (place p xs))) d) ≡ true
       go true f e l = e
       go false f e l = f (le_of_suc-le-suc l)
+
+module _ (p : ℕ → Bool) (s : List ℕ) (i : ℕ) where
+  place_at : (b : Bool) → i < length s → p (get_or s i 0) ≡ b → place p (drop i s) ≡ pick b 0 (suc (place p (drop (i + 1) s)))
+  unfolding place
+  place_at b h e = ap (place p) (next s i h) ∙ ap (λ (t : Bool). pick t 0 (suc (place p (drop (i + 1) s)))) e
+
+  pub place-stop : i < length s → p (get_or s i 0) ≡ true → place p (drop i s) ≡ 0
+  place-stop h e = place_at true h e
+
+  pub place-step : i < length s → p (get_or s i 0) ≡ false → place p (drop i s) ≡ suc (place p (drop (i + 1) s))
+  place-step h e = place_at false h e
+
+  pub place_end : length s ≤ i → place p (drop i s) ≡ 0
+  unfolding place
+  place_end h = ap (place p) (drop_of_length-le s h)
 
 pub either-way : (a b : ℕ) → eqb a b ≡ eqb b a
 either-way a b = go (eqb a b) refl

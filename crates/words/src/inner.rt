@@ -1,7 +1,7 @@
 // One move to its word and back.
-ghost use Rattle.std.specs.Prelude.{◌≡◌, ◌==◌, ◌+◌, ◌≤◌, ◌<◌, [], ◌∷◌, get_or, length, position};
+ghost use Rattle.std.specs.Prelude.{◌≡◌, ◌+◌, ◌≤◌, ◌<◌, eqb, length};
 ghost use Rattle.words.specs.Answers.{over};
-ghost use Rattle.words.specs.Text.{letters, marks, word_of, number_of};
+ghost use Rattle.words.specs.Text.{letters, word_of, place, number_of};
 
 // The letters of the six layers.
 const LETTERS: [u8; 6] = [b'U', b'D', b'R', b'L', b'F', b'B'];
@@ -11,21 +11,19 @@ const MARKS: [u8; 2] = [b'2', b'\''];
 
 // ---- one word
 
-// The layer of a letter, if it has one.
-fn layer_of(letter: u8) -> Option<usize>
-    ensures { result ≡ position (λ x. x == letter) letters }
+// The layer of a letter, 6 for any other byte. (A number, and each test once: an `Option` of it and a pattern of the word take a text 1.3 to 1.6 times
+// as long.)
+fn layer_of(letter: u8) -> u8
+    ensures { result ≡ place (eqb letter) letters }
 {
-    LETTERS.iter().position(|x| *x == letter)
-}
-
-// The number of the move that a letter and the mark of `mark` more quarter turns name, 18 if there is no such letter.
-fn marked(letter: u8, mark: u8) -> u8
-    requires { mark < 3 }
-    ensures { result ≡ number_of (letter ∷ get_or marks mark []) }
-{
-    match layer_of(letter) {
-        Some(layer) => layer as u8 * 3 + mark,
-        None => 18,
+    match letter {
+        b'U' => 0,
+        b'D' => 1,
+        b'R' => 2,
+        b'L' => 3,
+        b'F' => 4,
+        b'B' => 5,
+        _ => 6,
     }
 }
 
@@ -33,10 +31,23 @@ fn marked(letter: u8, mark: u8) -> u8
 pub fn number_of(word: &[u8]) -> u8
     ensures { result ≡ number_of word.now }
 {
-    match word {
-        [letter] => marked(*letter, 0),
-        [letter, b'2'] => marked(*letter, 1),
-        [letter, b'\''] => marked(*letter, 2),
+    let n = word.len();
+    if n == 0 {
+        return 18;
+    }
+    let layer = layer_of(word[0]);
+    if layer == 6 {
+        return 18;
+    }
+    if n == 1 {
+        return layer * 3;
+    }
+    if n != 2 {
+        return 18;
+    }
+    match word[1] {
+        b'2' => layer * 3 + 1,
+        b'\'' => layer * 3 + 2,
         _ => 18,
     }
 }

@@ -1,5 +1,5 @@
 -- `solution::print_refused` meets its contract. Assumes nothing.
-use Rattle.std.proofs.Common.{arith, ◌≡◌, ap, ◌∙◌, ◌<◌, ◌≤◌, ℕ, length}
+use Rattle.std.proofs.Common.{arith, ◌≡◌, ap, ◌∙◌, ℕ, length}
 use Rattle.refusal.specs.Refusals.{number}
 use Rattle.refusal.proofs.Laws.{number-small}
 use Rattle.lines.specs.Lines.{line, refused_word}

@@ -7,11 +7,11 @@ use lib.Seq.{length-take-le}
 use Rattle.cubie.specs.declared.CubieCube.{CubieCube}
 use Rattle.refusal.proofs.Laws.{given}
 use Rattle.stickers.specs.Reader.{cube_read, strict_refusal, read_strict}
-use Rattle.lines.specs.Lines.{first_line, after_line, line, refused_word, index_of}
+use Rattle.lines.specs.Lines.{first_line, after_line, index_of}
 use Rattle.lines.proofs.Parts.{to_the_end}
 use Rattle.solution.specs.Request.{limit_text}
 use Rattle.solution.specs.Text.{printed_as}
-use Rattle.solution.proofs.Cases.{solution-long, solution-refused, solution-good}
+use Rattle.solution.proofs.Cases.{solution-long, solution-refused-as, solution-good}
 use Rattle.solution.proofs.solution.Goals as goal
 
 pub text_start-start-requires : goal.text_start-start-requires
@@ -28,7 +28,7 @@ returns-in-Err c =
     let a = c.args in
     let s = a.input.now in
     let e = ap (λ (k : ℕ). read_strict (take k s)) (sym c.find-end.ensures.value) ∙ sym c.in-Err.ensures in
-    record { value = c.print_refused-in-Err.ensures.0 ∙ ap printed_as (sym (solution-refused s a.moves.now a.prunes.now c.in-Err.r c.if-input-gt1024.false e)); len_bound = c.print_refused-in-Err.ensures.1 }
+    record { value = c.print_refused-in-Err.ensures.0 ∙ ap printed_as (sym (solution-refused-as s a.moves.now a.prunes.now c.in-Err.r c.if-input-gt1024.false e)); len_bound = c.print_refused-in-Err.ensures.1 }
 
 pub returns-in-Ok : goal.returns-in-Ok
 returns-in-Ok c =

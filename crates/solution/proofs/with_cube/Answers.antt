@@ -1,15 +1,14 @@
 -- `solution::with_cube` meets its contract. Assumes nothing.
-use mathlib.Core.Path.{◌≡◌, sym, ap, ap₂, ◌∙◌}
+use mathlib.Core.Path.{◌≡◌, sym, ap, ◌∙◌}
 use mathlib.Core.List.{List}
-use Prim.Native.Nat.{ℕ, ◌+◌, ◌-◌, ◌≤◌, ◌<◌}
-use native.Mathlib.Omega.{arith}
+use Prim.Native.Nat.{ℕ, ◌+◌, ◌-◌}
 use lib.ListN.{length, take, drop}
 use lib.Seq.{length-take-le}
-use Rattle.lines.specs.Lines.{first_line, after_line, index_of}
+use Rattle.lines.specs.Lines.{after_line, index_of}
 use Rattle.lines.proofs.Parts.{to_the_end}
 use Rattle.solution.specs.Request.{amount_of, budget_text}
 use Rattle.solution.specs.Text.{printed_as}
-use Rattle.solution.proofs.Cases.{limit-none, limit-bad, limit-good}
+use Rattle.solution.proofs.Cases.{limit-none, limit-above, limit-good}
 use Rattle.solution.proofs.with_cube.Goals as goal
 
 pub slice_bounds-amount-end : goal.slice_bounds-amount-end
@@ -30,7 +29,7 @@ returns-then-limit-gt-MAX_LIMIT c =
     let a = c.args in
     let t = a.text.now in
     let e = ap (λ (k : ℕ). amount_of 23 (take k t)) (sym c.find-end.ensures.value) ∙ sym c.in-Some.ensures in
-    (c.print_refused-then-limit-gt-MAX_LIMIT.ensures.0 ∙ ap printed_as (sym (limit-bad a.cube t a.moves.now a.prunes.now c.in-Some.limit e c.if-limit-gt-MAX_LIMIT.true)), c.print_refused-then-limit-gt-MAX_LIMIT.ensures.1)
+    (c.print_refused-then-limit-gt-MAX_LIMIT.ensures.0 ∙ ap printed_as (sym (limit-above a.cube t a.moves.now a.prunes.now c.in-Some.limit e c.if-limit-gt-MAX_LIMIT.true)), c.print_refused-then-limit-gt-MAX_LIMIT.ensures.1)
 
 pub returns : goal.returns
 returns c =

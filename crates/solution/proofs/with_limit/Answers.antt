@@ -4,12 +4,11 @@ use Prim.Native.Nat.{ℕ, ◌+◌, ◌≤◌, ◌<◌}
 use native.Mathlib.Omega.{arith}
 use lib.ListN.{length, take}
 use lib.Seq.{length-take-le}
-use Rattle.lines.specs.Lines.{first_line, index_of}
+use Rattle.lines.specs.Lines.{index_of}
 use Rattle.search.specs.declared.Solution.{Solution}
-use Rattle.search.specs.Solve.{solve_of}
 use Rattle.solution.specs.Request.{amount_of}
 use Rattle.solution.specs.Text.{answer_text, printed_as}
-use Rattle.solution.proofs.Cases.{budget-none, budget-bad, budget-more, budget-good}
+use Rattle.solution.proofs.Cases.{budget-none, budget-above, budget-more, budget-good}
 use borrow.Author.Rules.{rules}
 use Rattle.solution.proofs.with_limit.Goals as goal
 
@@ -28,7 +27,7 @@ returns-then-budget-gt4294967295 c =
     let a = c.args in
     let t = a.text.now in
     let e = ap (λ (k : ℕ). amount_of 1000000000 (take k t)) (sym c.find-end.ensures.value) ∙ sym c.in-Some.ensures in
-    (c.print_bytes-then-budget-gt4294967295.ensures.0 ∙ ap printed_as (sym (budget-bad a.cube a.limit t a.moves.now a.prunes.now c.in-Some.budget e c.if-budget-gt4294967295.true)), c.print_bytes-then-budget-gt4294967295.ensures.1)
+    (c.print_bytes-then-budget-gt4294967295.ensures.0 ∙ ap printed_as (sym (budget-above a.cube a.limit t a.moves.now a.prunes.now c.in-Some.budget e c.if-budget-gt4294967295.true)), c.print_bytes-then-budget-gt4294967295.ensures.1)
 
 pub overflow_add-end : goal.overflow_add-end
 overflow_add-end c =

@@ -15,28 +15,28 @@ use Rattle.cubie.proofs.inner.mul.Goals as goal
 names : (n : ℕ) (p q : List ℕ) → length p ≡ n → Under n q → Under (length p) q
 names n p q e u = rw e u
 
-pub permute-requires : goal.permute-requires
-permute-requires c =
+pub permute_row-requires : goal.permute_row-requires
+permute_row-requires c =
     let b = c.args.b in
     (lit< tt, names 8 c.args.a.cp b.cp (search rules) (ranges b c.requires.1).0)
 
-pub twist-requires : goal.twist-requires
-twist-requires c =
+pub twist_row-requires : goal.twist_row-requires
+twist_row-requires c =
     let b = c.args.b in
     let r = ranges b c.requires.1 in
     (lit< tt, (names 8 c.args.a.co b.cp (search rules) r.0, ((ranges c.args.a c.requires.0).1, r.1, omega arith, omega arith)))
 
-pub permute-requires-2 : goal.permute-requires-2
-permute-requires-2 c =
+pub permute_row-requires-2 : goal.permute_row-requires-2
+permute_row-requires-2 c =
     let b = c.args.b in
     (lit< tt, names 12 c.args.a.ep b.ep (search rules) (ranges b c.requires.1).2)
 
-pub twist-requires-2 : goal.twist-requires-2
-twist-requires-2 c =
+pub twist_row-requires-2 : goal.twist_row-requires-2
+twist_row-requires-2 c =
     let b = c.args.b in
     let r = ranges b c.requires.1 in
     (lit< tt, (names 12 c.args.a.eo b.ep (search rules) r.2, (under_more (omega arith) _ (ranges c.args.a c.requires.0).3, under_more (omega arith) _ r.3, omega arith, omega arith)))
 
 pub returns : goal.returns
 unfolding product
-returns c = λ i. record { cp = c.permute.ensures i; co = c.twist.ensures i; ep = c.permute-2.ensures i; eo = c.twist-2.ensures i }
+returns c = λ i. record { cp = c.permute_row.ensures i; co = c.twist_row.ensures i; ep = c.permute_row-2.ensures i; eo = c.twist_row-2.ensures i }

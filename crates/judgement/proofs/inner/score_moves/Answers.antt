@@ -5,7 +5,7 @@ use Rattle.refusal.proofs.Laws.{passes}
 use Rattle.words.specs.Text.{parse}
 use Rattle.words.proofs.Over.{over-length}
 use Rattle.judgement.specs.Judge.{score_moves, score_of, text_refusal}
-use Rattle.judgement.proofs.Refusals.{text-refused, text-taken, first-places}
+use Rattle.judgement.proofs.Refusals.{text-scored, text-taken, first-places}
 use Rattle.judgement.proofs.inner.score_moves.Goals as goal
 
 pub slice_bounds-moves-end : goal.slice_bounds-moves-end
@@ -33,7 +33,7 @@ score_list-requires c =
 pub returns-in_err-n : goal.returns-in_err-n
 returns-in_err-n c =
     let p = err_from_is_err_and c.from_residual.result c.from_residual.ensures.1 in
-    rw (p.1, p.2) (sym (text-refused c.args.cube c.args.text.now (replicate 255 0) _ refl (sym c.in_err-n.ensures.value)))
+    rw (p.1, p.2) (sym (text-scored c.args.cube c.args.text.now (replicate 255 0) _ refl (sym c.in_err-n.ensures.value)))
 
 pub returns : goal.returns
 unfolding score_moves

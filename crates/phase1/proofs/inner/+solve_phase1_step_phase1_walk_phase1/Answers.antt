@@ -83,8 +83,8 @@ walk_phase1-returns-in-None t c =
     let low = first-low first c.requires.below.1 in
     gives1 (refuses _ _ _ _ phase1-column _ _ _ _ first low.0 (was-refused1 _ _ _ (sym c.in-None.is ∙ c.next.ensures))) refl tt
 
-pub walk_phase1-cut_at_once-requires : goal.walk_phase1-cut_at_once-requires
-walk_phase1-cut_at_once-requires t c = made-below1 _ _ _ (sym c.in-Some.is ∙ c.next.ensures)
+pub walk_phase1-cut_at_once-requires-clause-below : goal.walk_phase1-cut_at_once-requires-clause-below
+walk_phase1-cut_at_once-requires-clause-below t c = made-below1 _ _ _ (sym c.in-Some.is ∙ c.next.ensures)
 
 pub walk_phase1-overflow_sub-s : goal.walk_phase1-overflow_sub-s
 walk_phase1-overflow_sub-s t c = cut-paid _ _ _ _ _ (sym c.cut_at_once.ensures ∙ c.if-cut_at_once.true)

@@ -52,8 +52,8 @@ returns-in-None t c =
     let low = first-low first c.loop-set.invariant.under in
     gives2 (c.loop-set.invariant.walk ∙ refuses _ _ _ _ phase2-column _ _ _ _ first low.0 (was-refused2 _ _ _ (sym c.in-None.is ∙ c.next.ensures))) refl tt
 
-pub cut_at_once-requires : goal.cut_at_once-requires
-cut_at_once-requires t c = made-below2 _ _ _ (sym c.in-Some.is ∙ c.next.ensures)
+pub cut_at_once-requires-clause-below : goal.cut_at_once-requires-clause-below
+cut_at_once-requires-clause-below t c = made-below2 _ _ _ (sym c.in-Some.is ∙ c.next.ensures)
 
 pub overflow_sub-rest-then-cut_at_once : goal.overflow_sub-rest-then-cut_at_once
 overflow_sub-rest-then-cut_at_once t c = cut-paid _ _ _ _ _ (sym c.cut_at_once.ensures ∙ c.if-cut_at_once.true)

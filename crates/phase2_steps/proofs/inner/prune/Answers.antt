@@ -5,4 +5,4 @@ use Rattle.phase2_steps.proofs.Facts.{cut2-is}
 use Rattle.phase2_steps.proofs.inner.prune.Goals as goal
 
 pub returns : goal.returns
-returns c = ap (ltb _) c.max.ensures ∙ sym (cut2-is c.args.tables.now.prunes.now _ _ c.requires)
+returns c = ap (ltb _) c.max.ensures ∙ sym (cut2-is c.args.prunes.now _ _ c.requires.below)

@@ -1,6 +1,8 @@
 -- `prune_block::inner::fill_part` meets its contract. Assumes nothing.
-use Rattle.move_row.specs.Tables.{number}
-use Rattle.pruning_table.specs.Check.{prune_number}
+use Rattle.std.proofs.Common.{List, ℕ}
+use Rattle.move_row.specs.Tables.{number, table_at, columns}
+use Rattle.pair_table.specs.Answers.{Built, Outcome}
+use Rattle.pruning_table.specs.Check.{prune_number, first_of, second_of, rows}
 use Rattle.pruning_table.proofs.Filling.{part-fills}
 use Rattle.pruning_table.proofs.Parts.{Spot, prune_lt, prune_ge}
 use Rattle.prune_block.proofs.inner.fill_part.Goals.{After-begins-at}
@@ -24,8 +26,14 @@ spot c =
       at = c.begins-at.ensures;
     }
 
+-- what the builder of table t answers, at those numbers
+counted : {t a b k n1 n2 i j p : ℕ} → Spot t a b k n1 n2 i j p → (xs ys tab tab' : List ℕ) (r : Built)
+    → Outcome xs ys (rows (first_of t)) (rows (second_of t)) (columns (table_at (first_of t))) tab tab' r → Outcome xs ys n1 n2 k tab tab' r
+counted s xs ys tab tab' r o = rw (s.rows1, s.rows2, s.columns-are, s.first, s.second) o
+
 pub returns : goal.returns
 returns c =
-    let b = c.get_prune_table in
-    let d = part-fills (spot (goal.at.returns c).After-begins-at) c.args.moves.now c.args.prunes.now c.requires.0 c.requires.1 b.new.tab b.auto.tab b.result b.ensures in
+    let b = c.get_table in
+    let s = spot (goal.at.returns c).After-begins-at in
+    let d = part-fills s c.args.moves.now c.args.prunes.now c.requires.0 c.requires.1 b.new.table b.auto.table b.result (counted s _ _ _ _ _ b.ensures) in
     record { refilled = d.0; decides = rw c.is_err.ensures.value d.1 }

@@ -13,21 +13,23 @@ use Rattle.base.proofs.Steps.{written-more, written_all}
 use Rattle.stickers.specs.Reader.{corner_fits, first_from, corner_read, twist_read}
 use Rattle.stickers.proofs.First.{first_found, first_next, first-none}
 use Rattle.stickers.proofs.Found.{corner-placed}
-use Rattle.reading.proofs.inner.read_corners.Goals.{then-loop-j-test+then-corner_fits, else-loop-j-test, in-Some, in-None}
+use Rattle.reading.proofs.inner.read_corners.Goals.{then-j-eq8, else-j-eq8+then-corner_fits, in-Some, in-None}
 use Rattle.reading.proofs.inner.read_corners.Goals as goal
 
-pub loop-j-preserved : goal.loop-j-preserved
-loop-j-preserved c = first_next _ 8 c.loop-j.j c.loop-j-test.true (sym c.corner_fits.ensures ∙ c.if-corner_fits.false) ∙ c.loop-j.invariant
+pub pieces-preserved : goal.pieces-preserved
+pieces-preserved c = (omega arith, first_next _ 8 c.pieces.j (omega arith) (sym c.corner_fits.ensures ∙ c.if-corner_fits.false) ∙ c.pieces.invariant.1)
 
 -- the inner loop yields the first piece that fits
-yielded : (c : goal.Joined-piece) (r : Option ℕ) → c.loop-j-test.piece ≡ r
+yielded : (c : goal.Joined-piece) (r : Option ℕ) → c.if-j-eq8.piece ≡ r
     → MatchOption r (8 ≡ first_from (corner_fits c.at_corner-a.result c.at_corner-b.result) 0 8) (λ j. (j < 8) × (j ≡ first_from (corner_fits c.at_corner-a.result c.at_corner-b.result) 0 8))
 yielded c r e =
     let fits = corner_fits c.at_corner-a.result c.at_corner-b.result in
-    let l = c.loop-j in
-    elim c.loop-j-test.branch [
-      | then-loop-j-test+then-corner_fits w ↦ rw (← e, w.piece-is) (w.loop-j-test.true, sym (first_found fits 8 l.j w.loop-j-test.true (sym w.corner_fits.ensures ∙ w.if-corner_fits.true)) ∙ l.invariant)
-      | else-loop-j-test w ↦ rw (← e, w.piece-is) (omega (arith, w.loop-j-test.false, l.auto.j-end) ∙ sym (first-none fits 8 l.j w.loop-j-test.false) ∙ l.invariant)
+    let l = c.pieces in
+    elim c.if-j-eq8.branch [
+      | then-j-eq8 w ↦ rw (← e, w.piece-is) (sym w.if-j-eq8.true ∙ sym (first-none fits 8 l.j (omega (arith, w.if-j-eq8.true))) ∙ l.invariant.1)
+      | else-j-eq8+then-corner_fits w ↦
+          let h : l.j < 8 = omega (arith, w.if-j-eq8.false, l.invariant.0) in
+          rw (← e, w.piece-is) (h, sym (first_found fits 8 l.j h (sym w.corner_fits.ensures ∙ w.if-corner_fits.true)) ∙ l.invariant.1)
     ]
 
 -- that piece and its twist go to the place

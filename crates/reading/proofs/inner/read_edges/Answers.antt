@@ -13,21 +13,23 @@ use Rattle.base.proofs.Steps.{written-more, written_all}
 use Rattle.stickers.specs.Reader.{edge_fits, first_from, edge_read, flip_read}
 use Rattle.stickers.proofs.First.{first_found, first_next, first-none}
 use Rattle.stickers.proofs.Found.{edge-placed}
-use Rattle.reading.proofs.inner.read_edges.Goals.{then-loop-k-test+then-edge_fits, else-loop-k-test, in-Some, in-None}
+use Rattle.reading.proofs.inner.read_edges.Goals.{then-k-eq24, else-k-eq24+then-edge_fits, in-Some, in-None}
 use Rattle.reading.proofs.inner.read_edges.Goals as goal
 
-pub loop-k-preserved : goal.loop-k-preserved
-loop-k-preserved c = first_next _ 24 c.loop-k.k c.loop-k-test.true (sym c.edge_fits.ensures ∙ c.if-edge_fits.false) ∙ c.loop-k.invariant
+pub ways-preserved : goal.ways-preserved
+ways-preserved c = (omega arith, first_next _ 24 c.ways.k (omega arith) (sym c.edge_fits.ensures ∙ c.if-edge_fits.false) ∙ c.ways.invariant.1)
 
 -- the inner loop yields the first way that fits
-yielded : (c : goal.Joined-way) (r : Option ℕ) → c.loop-k-test.way' ≡ r
+yielded : (c : goal.Joined-way) (r : Option ℕ) → c.if-k-eq24.way' ≡ r
     → MatchOption r (24 ≡ first_from (edge_fits c.at_edge-a.result c.at_edge-b.result) 0 24) (λ k. (k < 24) × (k ≡ first_from (edge_fits c.at_edge-a.result c.at_edge-b.result) 0 24))
 yielded c r e =
     let fits = edge_fits c.at_edge-a.result c.at_edge-b.result in
-    let l = c.loop-k in
-    elim c.loop-k-test.branch [
-      | then-loop-k-test+then-edge_fits w ↦ rw (← e, w.way'-is) (w.loop-k-test.true, sym (first_found fits 24 l.k w.loop-k-test.true (sym w.edge_fits.ensures ∙ w.if-edge_fits.true)) ∙ l.invariant)
-      | else-loop-k-test w ↦ rw (← e, w.way'-is) (omega (arith, w.loop-k-test.false, l.auto.k-end) ∙ sym (first-none fits 24 l.k w.loop-k-test.false) ∙ l.invariant)
+    let l = c.ways in
+    elim c.if-k-eq24.branch [
+      | then-k-eq24 w ↦ rw (← e, w.way'-is) (sym w.if-k-eq24.true ∙ sym (first-none fits 24 l.k (omega (arith, w.if-k-eq24.true))) ∙ l.invariant.1)
+      | else-k-eq24+then-edge_fits w ↦
+          let h : l.k < 24 = omega (arith, w.if-k-eq24.false, l.invariant.0) in
+          rw (← e, w.way'-is) (h, sym (first_found fits 24 l.k h (sym w.edge_fits.ensures ∙ w.if-edge_fits.true)) ∙ l.invariant.1)
     ]
 
 -- that way gives the edge and the flip that go to the place

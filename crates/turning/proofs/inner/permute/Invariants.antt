@@ -5,4 +5,4 @@ use Rattle.base.specs.Product.{compose}
 use Rattle.turning.proofs.inner.permute.Given as goal
 
 abbrev pub invariant-loop-i : goal.invariant-loop-i
-invariant-loop-i g l = (length l.o-items ≡ length l.q) × (take l.i l.o-items ≡ take l.i (compose l.p l.q))
+invariant-loop-i l = (length l.out ≡ length l.initial.out) × (take l.i l.out ≡ take l.i (compose l.p l.q))

@@ -5,4 +5,4 @@ use Rattle.base.specs.Product.{twisted}
 use Rattle.turning.proofs.inner.twist.Given as goal
 
 abbrev pub invariant-loop-i : goal.invariant-loop-i
-invariant-loop-i g l = (length l.o-items ≡ length l.q) × (take l.i l.o-items ≡ take l.i (twisted l.k l.t l.q l.s))
+invariant-loop-i l = (length l.out ≡ length l.initial.out) × (take l.i l.out ≡ take l.i (twisted l.k l.t l.q l.s))

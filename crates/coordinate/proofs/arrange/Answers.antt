@@ -1,12 +1,9 @@
--- `coordinate::from_index` meets its contract. Assumes nothing.
-use Rattle.std.proofs.Common.{List, ℕ, Result, eqb, length, sym, ap, ◌∙◌}
+-- `coordinate::arrange` meets its contract. Assumes nothing.
+use Rattle.std.proofs.Common.{eqb, length, ◌∙◌}
 use native.Mathlib.Omega.{arith}
-use Rattle.base.specs.Lists.{pick}
-use Rattle.refusal.specs.declared.Refusal.{Refusal}
-use Rattle.refusal.specs.Refusals.{value_or}
 use Rattle.numbering.specs.Coordinates.{e_combo_of}
 use Rattle.coordinate.proofs.Sixteen.{left_narrow}
-use Rattle.coordinate.proofs.from_index.Goals as goal
+use Rattle.coordinate.proofs.arrange.Goals as goal
 
 pub returns-in-2-clause-places_after : goal.returns-in-2-clause-places_after
 returns-in-2-clause-places_after c =
