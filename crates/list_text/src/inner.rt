@@ -1,28 +1,13 @@
 // The loops from text to moves and back, without the tests of the public functions.
-ghost use Rattle.std.specs.Prelude.{◌≡◌, map, ◌+◌, ◌≤◌, ◌<◌, ◌^◌, leb, eqb, length, drop};
+ghost use Rattle.std.specs.Prelude.{◌≡◌, map, ◌+◌, ◌≤◌, ◌<◌, ◌^◌, leb, length};
 ghost use Rattle.base.specs.Lists.{Under};
 ghost use Rattle.words.specs.Answers.{over, moves_counted};
-ghost use Rattle.words.specs.Text.{word_of, place, spaced, text_of, parse};
+ghost use Rattle.words.specs.Text.{word_of, spaced, text_of, parse};
 
 use refusal::Refusal;
 use words::inner::{number_of, put_word, word_len};
 
 // ---- from a text to its moves
-
-// Where the word that starts at `at` ends: the next space, or the end of the text. (A loop: `split` takes a long text up to 2.8 times as long.)
-fn word_end(text: &[u8], at: usize) -> usize
-    requires { at ≤ length text.now }
-    ensures { result ≡ at + place (eqb 32) (drop at text.now) }
-{
-    let mut i = at;
-    while i < text.len() {
-        if text[i] == b' ' {
-            return i;
-        }
-        i += 1;
-    }
-    i
-}
 
 // How many moves a text has; 7 for a text that is no move list.
 pub fn count_moves(text: &[u8]) -> Result<usize, Refusal>
@@ -32,14 +17,11 @@ pub fn count_moves(text: &[u8]) -> Result<usize, Refusal>
         return Ok(0);
     }
     let mut n = 0;
-    let mut at = 0;
-    while at <= text.len() {
-        let end = word_end(text, at);
-        if number_of(&text[at..end]) >= 18 {
+    for word in text.split(|b| *b == b' ') {
+        if number_of(word) >= 18 {
             return Err(Refusal::Move);
         }
         n += 1;
-        at = end + 1;
     }
     Ok(n)
 }
@@ -49,13 +31,12 @@ pub fn put_moves(text: &[u8], n: usize, moves: &mut [u8])
     requires { (n ≡ length (parse text.now)) × (n ≤ length moves.old) }
     ensures { moves.new ≡ over moves.old 0 (parse text.now) }
 {
-    let mut at = 0;
-    let mut i = 0;
-    while i < n {
-        let end = word_end(text, at);
-        moves[i] = number_of(&text[at..end]);
-        at = end + 1;
-        i += 1;
+    // an empty text has no words, where `split` gives one
+    if n == 0 {
+        return;
+    }
+    for (i, word) in text.split(|b| *b == b' ').enumerate() {
+        moves[i] = number_of(word);
     }
 }
 
